@@ -1,0 +1,5 @@
+pub mod BelowLaws
+pub mod AttackLaws
+pub mod PutLaws
+pub mod NextLaws
+mod RuleLaws

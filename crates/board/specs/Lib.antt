@@ -1,0 +1,6 @@
+pub mod Below
+pub mod Geometry
+pub mod Piece
+pub mod Attack
+pub mod Meaning
+pub mod Rule

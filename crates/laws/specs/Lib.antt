@@ -1,0 +1,4 @@
+pub mod Parts
+pub mod Lawful
+pub mod Setup
+pub mod Position

@@ -1,0 +1,6 @@
+//! The laws of chess: what a lawful position is.
+pub mod breach;
+pub mod position;
+pub mod rights;
+pub mod setup;
+pub mod square;
