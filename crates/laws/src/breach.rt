@@ -1,4 +1,8 @@
 //! Why parts make no position.
+ghost use mathlib.Core.Path.{_≡_};
+ghost use Rattle.laws.specs.Breach.{breach-fault};
+use faults::LawsFault;
+use faults::SheetFault;
 
 /// The law that parts break.
 #[derive(Clone, Copy, PartialEq, Eq, Debug)]
@@ -17,4 +21,15 @@ pub enum Breach {
     EnPassant,
     /// The clock is above 9,999, or the move number not 1 to 9,999.
     Counters,
+}
+
+pub impl From<Breach> for SheetFault as SheetFromBreach {
+    ghost converts = { λ law r. r ≡ breach-fault law };
+
+    fn from(law: Breach) -> SheetFault {
+        match law {
+            Breach::Counters => SheetFault::Counters,
+            _ => SheetFault::InLaws(LawsFault::Unlawful),
+        }
+    }
 }

@@ -1,5 +1,6 @@
 //! The laws of chess: what a lawful position is.
 pub mod breach;
+mod lawful;
 pub mod position;
 pub mod rights;
 pub mod setup;

@@ -1,14 +1,38 @@
 //! Making positions.
 ghost use mathlib.Core.Path.{_≡_};
 ghost use Rattle.laws.specs.Parts.{initial-parts};
-ghost use Rattle.laws.specs.Position.{position-parts};
+ghost use Rattle.laws.specs.Lawful.{judged};
+ghost use Rattle.laws.specs.Position.{position-parts, made-parts};
+ghost use Rattle.laws.specs.Setup.{parts};
+use crate::breach::Breach;
+use crate::lawful::broken;
 use crate::position::Position;
 use crate::rights::Castling;
 use crate::rights::Rights;
 use crate::setup::Setup;
+use board::Board;
+use board::picture::show;
 use board::side::Side;
 
 impl Position {
+    /// The position of these parts, or the first law that they break. The board, which is asked for attacks, is left as it was.
+    pub fn new<B: Board>(board: &mut B, setup: Setup) -> Result<Position, Breach>
+        ensures answer { λ r. ⌜ made-parts r ≡ judged (parts setup) ⌝ }
+        ensures list { λ _. ⌜ codes (now (board .exit)) ≡ codes (now (board .entry)) ⌝ }
+    {
+        match broken(board, &setup) {
+            Some(law) => Err(law),
+            None => Ok(Position { setup }),
+        }
+    }
+
+    /// Shows the position on a board.
+    pub fn show<B: Board>(&self, board: &mut B)
+        ensures { λ _. ⌜ codes (now (board .exit)) ≡ position-parts (now (self .entry)) .codes ⌝ }
+    {
+        show(board, &self.setup.codes);
+    }
+
     /// The parts of the position.
     pub fn setup(&self) -> Setup
         ensures { λ r. ⌜ r ≡ now (self .entry) .setup ⌝ }

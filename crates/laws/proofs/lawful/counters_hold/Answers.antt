@@ -1,0 +1,7 @@
+use mathlib.Core.Path.{refl}
+use Rattle.laws.specs.Lawful.{counters-stand}
+use Rattle.laws.proofs.lawful.counters_hold.Needs as need
+
+pub returns : need.returns
+unfolding counters-stand
+returns c = refl

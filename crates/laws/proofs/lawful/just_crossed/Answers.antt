@@ -1,0 +1,7 @@
+use mathlib.Core.Path.{_≡_, refl, sym, ap, _∙_}
+use Rattle.laws.specs.Lawful.{en-passant-stands}
+use Rattle.laws.proofs.lawful.just_crossed.Needs as need
+
+pub returns : need.returns
+unfolding en-passant-stands
+returns c = cc

@@ -1,0 +1,7 @@
+use mathlib.Core.Path.{refl}
+use Rattle.laws.specs.Opened.{laws-open}
+use Rattle.laws.proofs.position.Position.initial.Needs as need
+
+pub ghost-result : need.ghost-result
+unfolding laws-open
+ghost-result c = (refl, tt)

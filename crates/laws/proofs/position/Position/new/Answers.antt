@@ -1,0 +1,6 @@
+use mathlib.Core.Path.{_≡_, sym, _∙_}
+use Rattle.laws.proofs.LawfulLaws.{lawful-from}
+use Rattle.laws.proofs.position.Position.new.Needs as need
+
+pub ghost-result : need.ghost-result
+ghost-result g c = (lawful-from _ (sym (c .in-None .ensures tt .answer)), tt)

@@ -1,0 +1,5 @@
+pub mod CellFacts
+pub mod CellLists
+pub mod Walk
+pub mod Leaps
+pub mod Lines
