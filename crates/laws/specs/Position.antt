@@ -1,9 +1,9 @@
 -- The parts of a lawful position.
 use Rattle.std.specs.declared.result.Result.{Result}
 use Rattle.std.specs.declared.result.Result.the-variants.{Ok, Err}
-use Rattle.laws.specs.declared.breach.Breach.{Breach}
+use Rattle.rules.specs.declared.breach.Breach.{Breach}
 use Rattle.laws.specs.declared.position.Position.{Position}
-use Rattle.laws.specs.Parts.{Parts}
+use Rattle.rules.specs.Parts.{Parts}
 use Rattle.laws.specs.Setup.{parts}
 
 abbrev pub position-parts : Position → Parts

@@ -3,7 +3,7 @@ use Prim.Native.Nat.{ℕ}
 use Rattle.std.specs.Options.{mapped}
 use Rattle.laws.specs.declared.square.Square.{Square}
 use Rattle.laws.specs.declared.setup.Setup.{Setup}
-use Rattle.laws.specs.Parts.{Parts}
+use Rattle.rules.specs.Parts.{Parts}
 
 abbrev pub square-number : Square → ℕ
 square-number s = s .number

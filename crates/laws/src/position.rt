@@ -1,7 +1,7 @@
 //! Lawful positions.
 ghost use mathlib.Core.Bool.{true};
 ghost use mathlib.Core.Path.{_≡_};
-ghost use Rattle.laws.specs.Lawful.{lawful};
+ghost use Rattle.rules.specs.Lawful.{lawful};
 ghost use Rattle.laws.specs.Setup.{parts};
 use crate::setup::Setup;
 

@@ -1,5 +1,5 @@
 //! The parts of a position, lawful or not.
-use crate::rights::Rights;
+use rules::rights::Rights;
 use crate::square::Square;
 use board::side::Side;
 

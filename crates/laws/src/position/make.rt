@@ -1,14 +1,14 @@
 //! Making positions.
 ghost use mathlib.Core.Path.{_≡_};
-ghost use Rattle.laws.specs.Parts.{initial-parts};
-ghost use Rattle.laws.specs.Lawful.{judged};
+ghost use Rattle.rules.specs.Parts.{initial-parts};
+ghost use Rattle.rules.specs.Lawful.{judged};
 ghost use Rattle.laws.specs.Position.{position-parts, made-parts};
 ghost use Rattle.laws.specs.Setup.{parts};
-use crate::breach::Breach;
+use rules::breach::Breach;
 use crate::lawful::broken;
 use crate::position::Position;
-use crate::rights::Castling;
-use crate::rights::Rights;
+use rules::rights::Castling;
+use rules::rights::Rights;
 use crate::setup::Setup;
 use board::Board;
 use board::picture::show;

@@ -4,7 +4,7 @@ use Prim.Native.Nat.{ℕ, _<_, _≤_}
 use native.Mathlib.Omega.{arith}
 use Rattle.std.proofs.shelf.Lists.{getD-past}
 use Rattle.std.proofs.shelf.Tests.{cases-lt}
-use Rattle.laws.proofs.LawfulLaws.{not-board, shown-board}
+use Rattle.rules.proofs.LawfulLaws.{not-board, shown-board}
 use Rattle.laws.proofs.lawful.all_codes.Needs as need
 
 pub returns-then-code-gt12 : need.returns-then-code-gt12

@@ -2,7 +2,7 @@ use mathlib.Core.Path.{_≡_, refl, sym, ap, _∙_}
 use mathlib.Core.Bool.{Bool, true, false}
 use Rattle.board.specs.Attack.{in-check}
 use Rattle.board.specs.Piece.{other}
-use Rattle.laws.specs.Lawful.{broken}
+use Rattle.rules.specs.Lawful.{broken}
 use Rattle.laws.proofs.lawful.broken.Needs as need
 
 pub returns-then-not-all-codes : need.returns-then-not-all-codes

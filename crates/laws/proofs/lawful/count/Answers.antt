@@ -3,8 +3,8 @@ use native.Mathlib.Omega.{arith}
 use borrow.Author.Needs.{needs}
 use Rattle.std.proofs.shelf.Lists.{take-all}
 use Rattle.std.proofs.shelf.Ways.{tells}
-use Rattle.laws.specs.Lawful.{count}
-use Rattle.laws.proofs.LawfulLaws.{count-more}
+use Rattle.rules.specs.Lawful.{count}
+use Rattle.rules.proofs.LawfulLaws.{count-more}
 use Rattle.laws.proofs.lawful.count.Needs as need
 use Rattle.laws.proofs.lawful.count.Needs.{then-code-wanted, else-code-wanted}
 

@@ -1,7 +1,7 @@
 use mathlib.Core.Path.{_≡_}
 use Prim.Native.Nat.{_≤_}
 use lib.ListN.{take}
-use Rattle.laws.specs.Lawful.{count}
+use Rattle.rules.specs.Lawful.{count}
 use Rattle.laws.proofs.lawful.count.Given as given
 
 abbrev pub Inv-loop-code : given.InvT-loop-code

@@ -1,5 +1,5 @@
 use mathlib.Core.Path.{refl}
-use Rattle.laws.specs.Lawful.{counters-stand}
+use Rattle.rules.specs.Lawful.{counters-stand}
 use Rattle.laws.proofs.lawful.counters_hold.Needs as need
 
 pub returns : need.returns

@@ -1,6 +1,6 @@
 use mathlib.Core.Path.{_≡_, refl, sym, ap, _∙_}
 use borrow.Author.Needs.{needs}
-use Rattle.laws.specs.Lawful.{en-passant-stands}
+use Rattle.rules.specs.Lawful.{en-passant-stands}
 use Rattle.laws.proofs.lawful.en_passant_holds.Needs as need
 
 pub returns-in-None : need.returns-in-None

@@ -3,7 +3,7 @@ use Prim.Native.Nat.{ℕ, _≤_}
 use mathlib.Core.List.{List}
 use Rattle.board.specs.Attack.{in-check}
 use Rattle.board.specs.Meaning.{Shown}
-use Rattle.laws.proofs.LawfulLaws.{board-shown}
+use Rattle.rules.proofs.LawfulLaws.{board-shown}
 use Rattle.laws.proofs.lawful.exposed.Needs as need
 
 pub returns : need.returns

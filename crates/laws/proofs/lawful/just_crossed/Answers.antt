@@ -1,5 +1,5 @@
 use mathlib.Core.Path.{_≡_, refl, sym, ap, _∙_}
-use Rattle.laws.specs.Lawful.{en-passant-stands}
+use Rattle.rules.specs.Lawful.{en-passant-stands}
 use Rattle.laws.proofs.lawful.just_crossed.Needs as need
 
 pub returns : need.returns

@@ -6,7 +6,7 @@ use lib.ListN.{getD}
 use borrow.Author.Count.{below-more}
 use Rattle.std.proofs.shelf.Tests.{both-ways}
 use Rattle.board.proofs.BelowLaws.{all-at, all-from, not-passed}
-use Rattle.laws.specs.Lawful.{is-pawn, edges-free}
+use Rattle.rules.specs.Lawful.{is-pawn, edges-free}
 use Rattle.laws.proofs.lawful.no_pawn_on_edge.Needs as need
 
 neither : (a b : Bool) → (a || b) ≡ false → (not a && not b) ≡ true

@@ -2,7 +2,7 @@ use mathlib.Core.Path.{_≡_}
 use mathlib.Core.Bool.{true, not, _&&_}
 use Prim.Native.Nat.{ℕ, _+_, _<_}
 use lib.ListN.{getD}
-use Rattle.laws.specs.Lawful.{is-pawn}
+use Rattle.rules.specs.Lawful.{is-pawn}
 use Rattle.laws.proofs.lawful.no_pawn_on_edge.Given as given
 
 abbrev pub Inv-loop-file : given.InvT-loop-file

@@ -1,4 +1,4 @@
-use Rattle.laws.specs.Lawful.{one-king-each}
+use Rattle.rules.specs.Lawful.{one-king-each}
 use Rattle.laws.proofs.lawful.one_king.Needs as need
 
 pub returns : need.returns

@@ -1,5 +1,5 @@
 use mathlib.Core.Path.{refl}
-use Rattle.laws.specs.Opened.{laws-open}
+use Rattle.rules.specs.Opened.{laws-open}
 use Rattle.laws.proofs.position.Position.initial.Needs as need
 
 pub ghost-result : need.ghost-result

@@ -1,5 +1,5 @@
 use mathlib.Core.Path.{_≡_, sym, _∙_}
-use Rattle.laws.proofs.LawfulLaws.{lawful-from}
+use Rattle.rules.proofs.LawfulLaws.{lawful-from}
 use Rattle.laws.proofs.position.Position.new.Needs as need
 
 pub ghost-result : need.ghost-result

@@ -1,4 +1,4 @@
-use Rattle.laws.proofs.LawfulLaws.{board-shown, lawful-board}
+use Rattle.rules.proofs.LawfulLaws.{board-shown, lawful-board}
 use Rattle.laws.proofs.position.Position.show.Needs as need
 
 pub returns : need.returns

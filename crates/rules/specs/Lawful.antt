@@ -15,11 +15,11 @@ use Rattle.board.specs.Below.{all-below}
 use Rattle.board.specs.Geometry.{rank}
 use Rattle.board.specs.Piece.{other, code, holds}
 use Rattle.board.specs.Attack.{in-check}
-use Rattle.laws.specs.declared.rights.Castling.{Castling}
-use Rattle.laws.specs.declared.rights.Rights.{Rights}
-use Rattle.laws.specs.declared.breach.Breach.{Breach}
-use Rattle.laws.specs.declared.breach.Breach.the-variants as breach
-use Rattle.laws.specs.Parts.{Parts}
+use Rattle.rules.specs.declared.rights.Castling.{Castling}
+use Rattle.rules.specs.declared.rights.Rights.{Rights}
+use Rattle.rules.specs.declared.breach.Breach.{Breach}
+use Rattle.rules.specs.declared.breach.Breach.the-variants as breach
+use Rattle.rules.specs.Parts.{Parts}
 
 -- 64 codes, none above 12
 unfoldable pub is-board : List ℕ → Bool

@@ -1,6 +1,6 @@
 //! Why parts make no position.
 ghost use mathlib.Core.Path.{_≡_};
-ghost use Rattle.laws.specs.Breach.{breach-fault};
+ghost use Rattle.rules.specs.Breach.{breach-fault};
 use faults::LawsFault;
 use faults::SheetFault;
 

@@ -14,9 +14,9 @@ use Rattle.std.proofs.shelf.Tests.{and-parts, and-from, and-right, cases-lt, eq
 use Rattle.board.specs.Below.{all-below}
 use Rattle.board.specs.Meaning.{Shown}
 use Rattle.board.proofs.BelowLaws.{all-at, all-from}
-use Rattle.laws.specs.declared.breach.Breach.{Breach}
-use Rattle.laws.specs.Parts.{Parts}
-use Rattle.laws.specs.Lawful.{is-board, count, laws, first-broken, all-hold, broken, lawful}
+use Rattle.rules.specs.declared.breach.Breach.{Breach}
+use Rattle.rules.specs.Parts.{Parts}
+use Rattle.rules.specs.Lawful.{is-board, count, laws, first-broken, all-hold, broken, lawful}
 
 -- a board's codes can be shown
 pub board-shown : (codes : List ℕ) → is-board codes ≡ true → Shown codes

@@ -2,8 +2,8 @@
 use Rattle.faults.specs.declared.SheetFault.{SheetFault}
 use Rattle.faults.specs.declared.SheetFault.the-variants.{InLaws, Counters}
 use Rattle.faults.specs.declared.LawsFault.the-variants.{Unlawful}
-use Rattle.laws.specs.declared.breach.Breach.{Breach}
-use Rattle.laws.specs.declared.breach.Breach.the-variants as breach
+use Rattle.rules.specs.declared.breach.Breach.{Breach}
+use Rattle.rules.specs.declared.breach.Breach.the-variants as breach
 
 abbrev pub breach-fault : Breach → SheetFault
 breach-fault breach.Codes = InLaws Unlawful

@@ -6,8 +6,8 @@ use Rattle.std.specs.declared.option.Option.{Option}
 use Rattle.std.specs.declared.option.Option.the-variants.{Some, None}
 use Rattle.board.specs.declared.side.Side.{Side}
 use Rattle.board.specs.declared.side.Side.the-variants.{White, Black}
-use Rattle.laws.specs.declared.rights.Castling.{Castling}
-use Rattle.laws.specs.declared.rights.Rights.{Rights}
+use Rattle.rules.specs.declared.rights.Castling.{Castling}
+use Rattle.rules.specs.declared.rights.Rights.{Rights}
 
 -- the codes of the 64 squares, the side to move, the castling rights, the en passant square, the halfmove clock and the move number
 pub record Parts : Type 0 where

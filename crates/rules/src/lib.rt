@@ -1,0 +1,4 @@
+//! The rules of chess as definitions: lawful positions, legal moves, and the position after a move.
+
+pub mod rights;
+pub mod breach;
