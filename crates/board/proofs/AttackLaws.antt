@@ -1,5 +1,5 @@
 -- The attack test, taken apart: what each make of board shows of its own search.
-use mathlib.Core.Path.{_≡_, refl, sym, ap, _∙_}
+use mathlib.Core.Path.{_≡_, refl, sym, ap, subst, _∙_}
 use mathlib.Core.Bool.{Bool, true, false, cond, not, _&&_, _||_}
 use mathlib.Core.List.{List}
 use mathlib.Core.Logic.{_⊎_, inl, inr, ⊎-elim}
@@ -129,3 +129,69 @@ pub check-missed : (side : Side) (codes : List ℕ)
     → ((k : ℕ) → k < 64 → getD codes k 0 ≡ code side King → attacks (other side) codes k ≡ false) → in-check side codes ≡ false
 check-missed side codes f =
     not-passed (in-check side codes) (λ h. let r = decides-check side codes .0 h in both-ways _ (f (r .0) (r .1) (r .2 .0)) (r .2 .1))
+
+-- pawns, knights and kings do not slide
+abbrev Steps : Kind → Type 0
+Steps Pawn = Unit {0}
+Steps Knight = Unit {0}
+Steps King = Unit {0}
+Steps Bishop = ⊥
+Steps Rook = ⊥
+Steps Queen = ⊥
+
+no-slide : (side : Side) (kind : Kind) → Steps kind → (d : ℕ) → slides side d (code side kind) ≡ true → ⊥
+unfolding slides
+no-slide White Pawn k d h = grind (arith, tells)
+no-slide White Knight k d h = grind (arith, tells)
+no-slide White King k d h = grind (arith, tells)
+no-slide Black Pawn k d h = grind (arith, tells)
+no-slide Black Knight k d h = grind (arith, tells)
+no-slide Black King k d h = grind (arith, tells)
+no-slide side Bishop k d h = k
+no-slide side Rook k d h = k
+no-slide side Queen k d h = k
+
+-- what attacks, by the kind of the piece
+module _ (side : Side) (codes : List ℕ) (s t : ℕ) where
+  no-line : (kind : Kind) → Steps kind → getD codes s 0 ≡ code side kind → some-below 8 (λ d. attacks-along side codes d s t) ≡ false
+  no-line kind k e = not-passed _ (λ h.
+      let r = decides-some 8 (λ d. attacks-along side codes d s t) (λ d. Along side codes d s t) (λ d. decides-along side codes d s t) .0 h in
+      no-slide side kind k (r .0) (subst (λ (x : ℕ). slides side (r .0) x ≡ true) e (r .2 .0)))
+
+only-pawn : (side : Side) (c : ℕ) (p n k l : Bool) → c ≡ code side Pawn → l ≡ false
+    → ((eqb c (code side Pawn) && p) || ((eqb c (code side Knight) && n) || ((eqb c (code side King) && k) || l))) ≡ p
+only-pawn White c p n k l e f = grind (arith, tells)
+only-pawn Black c p n k l e f = grind (arith, tells)
+
+only-knight : (side : Side) (c : ℕ) (p n k l : Bool) → c ≡ code side Knight → l ≡ false
+    → ((eqb c (code side Pawn) && p) || ((eqb c (code side Knight) && n) || ((eqb c (code side King) && k) || l))) ≡ n
+only-knight White c p n k l e f = grind (arith, tells)
+only-knight Black c p n k l e f = grind (arith, tells)
+
+only-king : (side : Side) (c : ℕ) (p n k l : Bool) → c ≡ code side King → l ≡ false
+    → ((eqb c (code side Pawn) && p) || ((eqb c (code side Knight) && n) || ((eqb c (code side King) && k) || l))) ≡ k
+only-king White c p n k l e f = grind (arith, tells)
+only-king Black c p n k l e f = grind (arith, tells)
+
+only-line : (side : Side) (c : ℕ) (p n k l : Bool) → (c ≡ code side Pawn → ⊥) → (c ≡ code side Knight → ⊥) → (c ≡ code side King → ⊥)
+    → ((eqb c (code side Pawn) && p) || ((eqb c (code side Knight) && n) || ((eqb c (code side King) && k) || l))) ≡ l
+only-line White c p n k l a b d = grind (arith, tells)
+only-line Black c p n k l a b d = grind (arith, tells)
+
+module _ (side : Side) (codes : List ℕ) (s t : ℕ) where
+  pub pawn-attacks : getD codes s 0 ≡ code side Pawn → attacks-from side codes s t ≡ pawn-attack side s t
+  unfolding attacks-from
+  pawn-attacks e = only-pawn side _ _ _ _ _ e (no-line side codes s t Pawn tt e)
+
+  pub knight-attacks : getD codes s 0 ≡ code side Knight → attacks-from side codes s t ≡ knight-step s t
+  unfolding attacks-from
+  knight-attacks e = only-knight side _ _ _ _ _ e (no-line side codes s t Knight tt e)
+
+  pub king-attacks : getD codes s 0 ≡ code side King → attacks-from side codes s t ≡ king-step s t
+  unfolding attacks-from
+  king-attacks e = only-king side _ _ _ _ _ e (no-line side codes s t King tt e)
+
+  pub line-attacks : (getD codes s 0 ≡ code side Pawn → ⊥) → (getD codes s 0 ≡ code side Knight → ⊥) → (getD codes s 0 ≡ code side King → ⊥)
+      → attacks-from side codes s t ≡ some-below 8 (λ d. attacks-along side codes d s t)
+  unfolding attacks-from
+  line-attacks a b c = only-line side _ _ _ _ _ a b c

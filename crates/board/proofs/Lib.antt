@@ -2,4 +2,4 @@ pub mod BelowLaws
 pub mod AttackLaws
 pub mod PutLaws
 pub mod NextLaws
-mod RuleLaws
+pub mod RuleLaws

@@ -20,7 +20,7 @@ use Rattle.board.specs.Rule.{Line, Rank, File, Diagonal, On, files, ranks, Str
 use Rattle.board.proofs.AttackLaws.{Along, From, Stepped, decides-from, decides-attacks, decides-check}
 
 -- the line of a direction
-abbrev line : Direction → Line
+abbrev pub line : Direction → Line
 line East = Rank
 line West = Rank
 line North = File
@@ -109,7 +109,7 @@ lies Diagonal t s ne on =
     (cases-eq (rank s) (rank t))
 
 -- which pieces move along a direction
-abbrev Mover : Side → Line → ℕ → Type 0
+abbrev pub Mover : Side → Line → ℕ → Type 0
 Mover side Rank c = (c ≡ code side Queen) ⊎ (c ≡ code side Rook)
 Mover side File c = (c ≡ code side Queen) ⊎ (c ≡ code side Rook)
 Mover side Diagonal c = (c ≡ code side Queen) ⊎ (c ≡ code side Bishop)
@@ -120,7 +120,7 @@ either c x y = (
   λ h. ⊎-elim (λ (e : c ≡ x). or-left _ _ (eq-eqb c x e)) (λ (e : c ≡ y). or-right (eqb c x) _ (eq-eqb c y e)) h,
 )
 
-movers : (side : Side) (d c : ℕ) → d < 8 → Decides (slides side d c) (Mover side (line (direction d)) c)
+pub movers : (side : Side) (d c : ℕ) → d < 8 → Decides (slides side d c) (Mover side (line (direction d)) c)
 unfolding slides
 movers side zero c h = either c _ _
 movers side (suc zero) c h = either c _ _
@@ -133,17 +133,17 @@ movers side (suc (suc (suc (suc (suc (suc (suc zero))))))) c h = either c _ _
 movers side (suc (suc (suc (suc (suc (suc (suc (suc d)))))))) c h = absurd (omega arith)
 
 module _ (side : Side) (codes : List ℕ) (s t : ℕ) where
-  abbrev Moving : Line → Type 0
+  abbrev pub Moving : Line → Type 0
   Moving l = Mover side l (getD codes s 0) × Reaches l codes s t
 
-  along-moves : (d : ℕ) → d < 8 → Along side codes d s t → Moving (line (direction d))
+  pub along-moves : (d : ℕ) → d < 8 → Along side codes d s t → Moving (line (direction d))
   along-moves d h (sl, by, clear) =
       let on = on-line (direction d) t s by in (
         movers side d (getD codes s 0) h .0 sl,
         (on .0, on .1, λ u hu a b c. let w = way-there (direction d) t u s by a b c in clear u hu (w .0) (w .1)),
       )
 
-  moves-along : (l : Line) → Moving l → (d : ℕ) × (d < 8) × Along side codes d s t
+  pub moves-along : (l : Line) → Moving l → (d : ℕ) × (d < 8) × Along side codes d s t
   moves-along l (m, (ne, on, free)) =
       let p = lies l t s ne on in
       let d = p .0 in

@@ -1,0 +1,3 @@
+//! Moves: which are legal, what follows from one, check and the mates.
+pub mod action;
+mod reach;

@@ -1,0 +1,9 @@
+pub mod Fronts
+pub mod DecimalLaws
+pub mod RankSteps
+pub mod RankLaws
+pub mod FieldLaws
+pub mod FenLaws
+pub mod StartLaws
+pub mod Laying
+pub mod WriteLaws

@@ -1,0 +1,3 @@
+//! Chess notation: decimal numbers and FEN.
+pub mod decimal;
+pub mod fen;

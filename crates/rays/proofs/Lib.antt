@@ -1,0 +1,4 @@
+pub mod BitLaws
+pub mod SetLaws
+pub mod TableLaws
+pub mod LineLaws
