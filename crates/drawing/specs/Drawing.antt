@@ -43,10 +43,14 @@ side-name Black = bytes "Black"
 abbrev pub turn-drawn : Side → Bool → List ℕ
 turn-drawn side check = side-name side ++ (bytes " to move" ++ (cond check (bytes ", in check") [] ++ (line-feed ∷ [])))
 
+-- the letters of the files
+abbrev pub files-drawn : List ℕ
+files-drawn = bytes "  a b c d e f g h" ++ (line-feed ∷ [])
+
 -- a position: the ranks, the letters of the files, the turn, its FEN and an empty line
 unfoldable pub position-drawn : Parts → List ℕ
 position-drawn p =
-    ranks-drawn (p .codes) 8 ++ (bytes "  a b c d e f g h\\n" ++ (turn-drawn (p .side) (in-check (p .side) (p .codes))
+    ranks-drawn (p .codes) 8 ++ (files-drawn ++ (turn-drawn (p .side) (in-check (p .side) (p .codes))
     ++ (fen p ++ (line-feed ∷ line-feed ∷ []))))
 
 -- a fault: its number and layer, the byte of its line in the input, and the line's number; and an empty line
@@ -64,8 +68,9 @@ unfoldable pub rest-drawn : List ℕ → ℕ → ℕ → List ℕ → List ℕ
 rest-drawn read byte line [] = elim read [ [] ↦ [] | b ∷ t ↦ line-drawn (b ∷ t) byte line ]
 rest-drawn read byte line (b ∷ t) =
     elim (eqb b line-feed) [
-      true ↦ line-drawn read byte line ++ rest-drawn [] (byte + length read + 1) (line + 1) t
-    | false ↦ rest-drawn (read ++ (b ∷ [])) byte line t ]
+      | true ↦ line-drawn read byte line ++ rest-drawn [] (byte + length read + 1) (line + 1) t
+      | false ↦ rest-drawn (read ++ (b ∷ [])) byte line t
+    ]
 
 -- what is drawn of a whole input
 abbrev pub input-drawn : List ℕ → List ℕ

@@ -19,17 +19,23 @@ use notation::decimal::Digits;
 use notation::fen;
 use std::alloc::AllocError;
 
+// A text behind what is there.
+fn text(out: &mut Vec<u8>, bytes: &[u8]) -> Result<(), AllocError>
+    ensures { λ r. ⌜ made r (λ _. vec-items (now (out .exit)) ≡ vec-items (now (out .entry)) ++ now (bytes .entry)) ⌝ }
+{
+    out.extend_from_slice(bytes)
+}
+
 // A rank, counted from 0, behind its number.
 fn rank(out: &mut Vec<u8>, codes: &[u8; 64], rank: u8) -> Result<(), AllocError>
     requires { ⌜ rank < 8 ⌝ }
     ensures { λ r. ⌜ made r (λ _. vec-items (now (out .exit)) ≡ vec-items (now (out .entry)) ++ rank-drawn (now (codes .entry)) rank) ⌝ }
 {
-    out.push(b'1' + rank)?;
+    text(out, &[b'1' + rank])?;
     for file in 0..8usize {
-        out.push(b' ')?;
-        out.push(piece::letter(codes[8 * rank as usize + file]))?;
+        text(out, &[b' ', piece::letter(codes[8 * rank as usize + file])])?;
     }
-    out.push(b'\n')?;
+    text(out, &[b'\n'])?;
     Ok(())
 }
 
@@ -44,43 +50,44 @@ fn ranks(out: &mut Vec<u8>, codes: &[u8; 64]) -> Result<(), AllocError>
 }
 
 // Whose move it is, and whether that side is in check.
-fn turn(out: &mut Vec<u8>, side: Side, check: bool) -> Result<(), AllocError>
-    ensures { λ r. ⌜ made r (λ _. vec-items (now (out .exit)) ≡ vec-items (now (out .entry)) ++ turn-drawn side check) ⌝ }
+fn turn(side: Side, check: bool) -> &'static [u8]
+    ensures { λ r. ⌜ now r ≡ turn-drawn side check ⌝ }
 {
-    match side {
-        Side::White => out.extend_from_slice(b"White")?,
-        Side::Black => out.extend_from_slice(b"Black")?,
+    match (side, check) {
+        (Side::White, false) => b"White to move\n",
+        (Side::White, true) => b"White to move, in check\n",
+        (Side::Black, false) => b"Black to move\n",
+        (Side::Black, true) => b"Black to move, in check\n",
     }
-    out.extend_from_slice(b" to move")?;
-    if check {
-        out.extend_from_slice(b", in check")?;
-    }
-    out.push(b'\n')?;
-    Ok(())
 }
 
 // The FEN of a position.
 fn fen_line(out: &mut Vec<u8>, position: &Position) -> Result<(), AllocError>
     ensures { λ r. ⌜ made r (λ _. vec-items (now (out .exit)) ≡ vec-items (now (out .entry)) ++ fen-text (position-parts (now (position .entry)))) ⌝ }
 {
-    let mut text = [0; 96];
-    match fen::write(position, &mut text) {
-        Ok(length) => out.extend_from_slice(&text[0..length]),
+    let mut line = [0; 124];
+    match fen::write(position, &mut line) {
+        Ok(length) => text(out, &line[0..length])?,
         Err(_) => unreachable(),
     }
+    Ok(())
 }
 
 /// A position, with the board left to show it.
-pub fn position<B: Board>(out: &mut Vec<u8>, board: &mut B, position: &Position) -> Result<(), AllocError>
+pub fn position<B: Board>(
+    out: &mut Vec<u8>,
+    board: &mut B,
+    position: &Position,
+) -> Result<(), AllocError>
     ensures { λ r. ⌜ made r (λ _. vec-items (now (out .exit)) ≡ vec-items (now (out .entry)) ++ position-drawn (position-parts (now (position .entry)))) ⌝ }
 {
     position.show(board);
     let setup = position.setup();
     ranks(out, &setup.codes)?;
-    out.extend_from_slice(b"  a b c d e f g h\n")?;
-    turn(out, setup.side, in_check(board, setup.side))?;
+    text(out, b"  a b c d e f g h\n")?;
+    text(out, turn(setup.side, in_check(board, setup.side)))?;
     fen_line(out, position)?;
-    out.extend_from_slice(b"\n\n")?;
+    text(out, b"\n\n")?;
     Ok(())
 }
 
@@ -88,21 +95,26 @@ pub fn position<B: Board>(out: &mut Vec<u8>, board: &mut B, position: &Position)
 fn number(out: &mut Vec<u8>, number: u64) -> Result<(), AllocError>
     ensures { λ r. ⌜ made r (λ _. vec-items (now (out .exit)) ≡ vec-items (now (out .entry)) ++ digits number) ⌝ }
 {
-    out.extend_from_slice(Digits::of(number).text())
+    text(out, Digits::of(number).text())
 }
 
 /// A fault, of a line that starts at a byte and has a number.
-pub fn fault(out: &mut Vec<u8>, fault: SheetFault, byte: usize, line: usize) -> Result<(), AllocError>
+pub fn fault(
+    out: &mut Vec<u8>,
+    fault: SheetFault,
+    byte: usize,
+    line: usize,
+) -> Result<(), AllocError>
     ensures { λ r. ⌜ made r (λ _. vec-items (now (out .exit)) ≡ vec-items (now (out .entry)) ++ fault-drawn fault byte line) ⌝ }
 {
-    out.extend_from_slice(b"% fault ")?;
+    text(out, b"% fault ")?;
     number(out, fault.number() as u64)?;
-    out.extend_from_slice(b" layer ")?;
+    text(out, b" layer ")?;
     number(out, fault.layer() as u64)?;
-    out.extend_from_slice(b" byte ")?;
+    text(out, b" byte ")?;
     number(out, byte as u64)?;
-    out.extend_from_slice(b" line ")?;
+    text(out, b" line ")?;
     number(out, line as u64)?;
-    out.extend_from_slice(b"\n\n")?;
+    text(out, b"\n\n")?;
     Ok(())
 }

@@ -12,7 +12,13 @@ use std::alloc::Global;
 mod draw;
 
 // Draws what a line says, which starts at a byte of the input and has a number.
-fn draw_line<B: Board>(out: &mut Vec<u8>, board: &mut B, text: &[u8], byte: usize, line: usize) -> Result<(), AllocError>
+fn draw_line<B: Board>(
+    out: &mut Vec<u8>,
+    board: &mut B,
+    text: &[u8],
+    byte: usize,
+    line: usize,
+) -> Result<(), AllocError>
     ensures { λ r. ⌜ made r (λ _. vec-items (now (out .exit)) ≡ vec-items (now (out .entry)) ++ line-drawn (now (text .entry)) byte line) ⌝ }
 {
     match fen::read(board, text) {
@@ -22,7 +28,11 @@ fn draw_line<B: Board>(out: &mut Vec<u8>, board: &mut B, text: &[u8], byte: usiz
 }
 
 /// What is drawn of an input, line by line: the position of a line of FEN, or the fault that the line has.
-pub fn draw_input<B: Board + Drop>(heap: Global, mut board: B, input: &[u8]) -> Result<Vec<u8>, AllocError>
+pub fn draw_input<B: Board + Drop>(
+    heap: Global,
+    mut board: B,
+    input: &[u8],
+) -> Result<Vec<u8>, AllocError>
     ensures { λ r. ⌜ made r (λ out. vec-items out ≡ input-drawn (now (input .entry))) ⌝ }
 {
     let mut out = Vec::new(heap);
@@ -36,7 +46,13 @@ pub fn draw_input<B: Board + Drop>(heap: Global, mut board: B, input: &[u8]) -> 
         }
     }
     if start < input.len() {
-        draw_line(&mut out, &mut board, &input[start..input.len()], start, line)?;
+        draw_line(
+            &mut out,
+            &mut board,
+            &input[start..input.len()],
+            start,
+            line,
+        )?;
     }
     Ok(out)
 }

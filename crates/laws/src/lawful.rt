@@ -8,9 +8,6 @@ ghost use Rattle.std.specs.declared.option.Option.the-variants.{Some};
 ghost use Rattle.board.specs.Attack.{in-check};
 ghost use Rattle.rules.specs.Lawful.{is-board, count as counted, one-king-each, is-pawn as pawn, edges-free, right-stands, rights-stand, side-rights-stand, king-home, ahead, en-passant-rank, en-passant-stands, counters-stand, broken as first-broken-law};
 ghost use Rattle.laws.specs.Setup.{parts, square-number};
-use rules::breach::Breach;
-use rules::rights::Castling;
-use rules::rights::Rights;
 use crate::setup::Setup;
 use crate::square::Square;
 use board::Board;
@@ -20,6 +17,9 @@ use board::picture::show;
 use board::piece::Kind;
 use board::piece::code;
 use board::side::Side;
+use rules::breach::Breach;
+use rules::rights::Castling;
+use rules::rights::Rights;
 
 // Whether no code is above 12.
 fn all_codes(codes: &[u8; 64]) -> bool

@@ -1,7 +1,7 @@
 //! The parts of a position, lawful or not.
-use rules::rights::Rights;
 use crate::square::Square;
 use board::side::Side;
+use rules::rights::Rights;
 
 /// What a FEN text says: 64 codes, the side to move, the castling rights, the en passant square, the halfmove clock and the move number.
 #[derive(Clone, Copy)]

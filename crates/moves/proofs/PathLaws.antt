@@ -186,6 +186,6 @@ module _ (codes : List ℕ) (from to low high step at k : ℕ) (hf : from < 64) 
   pub walk-ended : high ≤ at → ((j : ℕ) → 0 < j → j ≤ k → getD codes (low + step * j) 0 ≡ 0) → Free l codes from to
   walk-ended h f = walk-open codes from to hf ht l ne on (λ j p q.
       subst (λ (x : ℕ). getD codes x 0 ≡ 0) (same-place j) (⊎-elim
-        (λ (b : j < k + 1). f j p (omega arith))
-        (λ (b : k + 1 ≤ j). absurd (let m = mul-le-mul-left step b in let r = same-place j in omega arith))
-        (cases-lt j (k + 1))))
+      (λ (b : j < k + 1). f j p (omega arith))
+      (λ (b : k + 1 ≤ j). absurd (let m = mul-le-mul-left step b in let r = same-place j in omega arith))
+      (cases-lt j (k + 1))))

@@ -31,14 +31,14 @@ Slant side c s t = (files s t ≡ ranks s t) × ((c ≡ code side Queen) ⊎ (c 
 -- the test of a line piece
 pub slides-test : (side : Side) (c s t : ℕ) →
     Decides (not (eqb s t) && (((eqb (rank s) (rank t) || eqb (file s) (file t)) && (eqb c (code side Queen) || eqb c (code side Rook)))
-        || (eqb (files s t) (ranks s t) && (eqb c (code side Queen) || eqb c (code side Bishop)))))
-      (Slides side c s t)
+    || (eqb (files s t) (ranks s t) && (eqb c (code side Queen) || eqb c (code side Bishop)))))
+    (Slides side c s t)
 slides-test side c s t =
     decides-like _ there back
-      (decides-and _ _ (decides-not _ (decides-eqb s t))
-        (decides-or _ _
-          (decides-and _ _ (decides-or _ _ (decides-eqb (rank s) (rank t)) (decides-eqb (file s) (file t))) (decides-or _ _ (decides-eqb c _) (decides-eqb c _)))
-          (decides-and _ _ (decides-eqb (files s t) (ranks s t)) (decides-or _ _ (decides-eqb c _) (decides-eqb c _)))))
+    (decides-and _ _ (decides-not _ (decides-eqb s t))
+    (decides-or _ _
+    (decides-and _ _ (decides-or _ _ (decides-eqb (rank s) (rank t)) (decides-eqb (file s) (file t))) (decides-or _ _ (decides-eqb c _) (decides-eqb c _)))
+    (decides-and _ _ (decides-eqb (files s t) (ranks s t)) (decides-or _ _ (decides-eqb c _) (decides-eqb c _)))))
   where
     there : (s ≡ t → ⊥) × (Straight side c s t ⊎ Slant side c s t) → Slides side c s t
     there (ne, inl (inl on, m)) = (ne, (Rank, on, m))
@@ -58,9 +58,9 @@ module _ (side : Side) (codes : List ℕ) (s t : ℕ) where
   pub decides-lines : Decides (some-below 8 (λ d. attacks-along side codes d s t)) By-line
   decides-lines =
       decides-like _
-        (λ p. (rule.line (direction (p .0)), rule.along-moves side codes s t (p .0) (p .1) (p .2)))
-        (λ p. rule.moves-along side codes s t (p .0) (p .1))
-        (decides-some 8 (λ d. attacks-along side codes d s t) (λ d. Along side codes d s t) (λ d. decides-along side codes d s t))
+      (λ p. (rule.line (direction (p .0)), rule.along-moves side codes s t (p .0) (p .1) (p .2)))
+      (λ p. rule.moves-along side codes s t (p .0) (p .1))
+      (decides-some 8 (λ d. attacks-along side codes d s t) (λ d. Along side codes d s t) (λ d. decides-along side codes d s t))
 
   pub lines-open : (r : Bool) → Slides side (getD codes s 0) s t → ((l : Line) → (s ≡ t → ⊥) → On l s t → Decides r (Free l codes s t))
       → r ≡ some-below 8 (λ d. attacks-along side codes d s t)

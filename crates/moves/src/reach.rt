@@ -129,5 +129,9 @@ pub fn reaches(codes: &[u8; 64], side: Side, from: usize, to: usize) -> bool
     if found == code(side, Kind::King) {
         return king_reaches(from, to);
     }
-    if slides_to(found, side, from, to) { line_open(codes, from, to) } else { false }
+    if slides_to(found, side, from, to) {
+        line_open(codes, from, to)
+    } else {
+        false
+    }
 }

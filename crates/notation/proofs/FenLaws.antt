@@ -13,9 +13,9 @@ use Rattle.std.proofs.shelf.Lists.{append-nil, take-all, getD-past}
 use Rattle.std.proofs.shelf.Tests.{and-parts, eqb-true, leb-true, cases-lt}
 use Rattle.board.specs.declared.side.Side.{Side}
 use Rattle.board.proofs.BelowLaws.{all-at}
-use Rattle.laws.specs.declared.rights.Rights.{Rights}
-use Rattle.laws.specs.Parts.{Parts}
-use Rattle.laws.specs.Lawful.{is-board}
+use Rattle.rules.specs.declared.rights.Rights.{Rights}
+use Rattle.rules.specs.Parts.{Parts}
+use Rattle.rules.specs.Lawful.{is-board}
 use Rattle.notation.specs.Reader.{then, behind}
 use Rattle.notation.specs.Decimal.{digits, read-number}
 use Rattle.notation.specs.Fields.{ranks-text, read-ranks, side-letter, read-side, rights-text, read-rights, en-passant-text, read-en-passant}

@@ -12,7 +12,7 @@ use Rattle.std.specs.declared.option.Option.the-variants.{Some, None}
 use Rattle.std.proofs.shelf.Tests.{cases-bool, and-parts, and-from, eq-eqb, ne-eqb, leb-true, ltb-true, le-leb, lt-ltb, true≢false}
 use Rattle.board.specs.declared.side.Side.{Side}
 use Rattle.board.specs.declared.side.Side.the-variants.{White, Black}
-use Rattle.laws.specs.declared.rights.Rights.{Rights}
+use Rattle.rules.specs.declared.rights.Rights.{Rights}
 use Rattle.notation.specs.Reader.{then, with, past, behind}
 use Rattle.notation.specs.Fields.{side-letter, read-side, right-text, no-right, rights-text, read-right, read-castling, read-rights, en-passant-text, read-eighth, read-square, read-en-passant}
 use Rattle.notation.proofs.RankLaws.{none-some, past-only, then-parts}

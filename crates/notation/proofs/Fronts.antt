@@ -12,7 +12,7 @@ use lib.Dec.{eqb, leb, ltb}
 use Rattle.std.specs.declared.option.Option.the-variants.{Some, None}
 use Rattle.std.proofs.shelf.Ways.{tells}
 use Rattle.std.proofs.shelf.Tests.{cases-lt, eq-eqb, ne-eqb}
-use Rattle.laws.specs.declared.rights.Castling.{Castling}
+use Rattle.rules.specs.declared.rights.Castling.{Castling}
 use Rattle.notation.specs.Reader.{past, with}
 use Rattle.notation.specs.Fields.{no-right, read-right, read-castling, read-rights, read-eighth}
 use Rattle.notation.proofs.DecimalLaws.{digits-step}

@@ -9,8 +9,8 @@ use Rattle.std.specs.declared.option.Option.the-variants.{Some}
 use Rattle.std.proofs.shelf.Lists.{append-nil, drop-more, drop-all}
 use Rattle.std.proofs.shelf.Tests.{eq-eqb, ne-eqb}
 use Rattle.board.specs.Piece.{letter}
-use Rattle.laws.specs.declared.rights.Rights.{Rights}
-use Rattle.laws.specs.Parts.{Parts}
+use Rattle.rules.specs.declared.rights.Rights.{Rights}
+use Rattle.rules.specs.Parts.{Parts}
 use Rattle.notation.specs.Decimal.{digits}
 use Rattle.notation.specs.Fen.{fen}
 use Rattle.notation.specs.Fields.{gap-text, rank-text, rank-end, rank-codes, ranks-text, side-letter, right-text, no-right, rights-text, en-passant-text}

@@ -13,10 +13,10 @@ use Rattle.faults.specs.declared.NotationFault.{NotationFault}
 use Rattle.faults.specs.declared.NotationFault.the-variants.{NotFen}
 use Rattle.faults.specs.declared.LawsFault.the-variants.{InNotation}
 use Rattle.faults.specs.declared.SheetFault.the-variants.{InLaws, Counters}
-use Rattle.laws.specs.declared.breach.Breach.{Breach}
-use Rattle.laws.specs.Breach.{breach-fault}
-use Rattle.laws.specs.Lawful.{broken, judged}
-use Rattle.laws.specs.Parts.{Parts}
+use Rattle.rules.specs.declared.breach.Breach.{Breach}
+use Rattle.rules.specs.Breach.{breach-fault}
+use Rattle.rules.specs.Lawful.{broken, judged}
+use Rattle.rules.specs.Parts.{Parts}
 use Rattle.notation.specs.Fen.{fen-parts}
 use Rattle.notation.specs.Answers.{start-counters, started, start-of, start-answer}
 

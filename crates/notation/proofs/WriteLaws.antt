@@ -12,15 +12,15 @@ use Rattle.std.specs.declared.option.Option.the-variants.{Some, None}
 use Rattle.std.specs.declared.result.Result.the-variants.{Ok, Err}
 use Rattle.std.proofs.shelf.Tests.{and-parts, leb-true, lt-ltb, le-ltb}
 use Rattle.faults.specs.declared.SheetFault.the-variants.{BufferShort}
-use Rattle.laws.specs.declared.breach.Breach.{Breach}
-use Rattle.laws.specs.declared.breach.Breach.the-variants.{Counters}
+use Rattle.rules.specs.declared.breach.Breach.{Breach}
+use Rattle.rules.specs.declared.breach.Breach.the-variants.{Counters}
 use Rattle.laws.specs.declared.position.Position.{Position}
 use Rattle.laws.specs.declared.square.Square.{Square}
-use Rattle.laws.specs.Lawful.{counters-stand, laws, all-hold, lawful}
-use Rattle.laws.specs.Parts.{Parts}
+use Rattle.rules.specs.Lawful.{counters-stand, laws, all-hold, lawful}
+use Rattle.rules.specs.Parts.{Parts}
 use Rattle.laws.specs.Position.{position-parts}
 use Rattle.laws.specs.Setup.{square-number}
-use Rattle.laws.proofs.LawfulLaws.{lawful-board}
+use Rattle.rules.proofs.LawfulLaws.{lawful-board}
 use Rattle.notation.specs.Fen.{fen, fen-parts}
 use Rattle.notation.specs.Answers.{write-answer, written-over}
 use Rattle.notation.proofs.FenLaws.{reads-back}

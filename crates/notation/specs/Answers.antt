@@ -13,12 +13,12 @@ use Rattle.faults.specs.declared.NotationFault.the-variants.{NotFen}
 use Rattle.faults.specs.declared.LawsFault.the-variants.{InNotation}
 use Rattle.faults.specs.declared.SheetFault.{SheetFault}
 use Rattle.faults.specs.declared.SheetFault.the-variants.{InLaws, Counters, BufferShort}
-use Rattle.laws.specs.declared.breach.Breach.{Breach}
+use Rattle.rules.specs.declared.breach.Breach.{Breach}
 use Rattle.laws.specs.declared.position.Position.{Position}
 use Rattle.laws.specs.declared.setup.Setup.{Setup}
-use Rattle.laws.specs.Breach.{breach-fault}
-use Rattle.laws.specs.Lawful.{judged}
-use Rattle.laws.specs.Parts.{Parts}
+use Rattle.rules.specs.Breach.{breach-fault}
+use Rattle.rules.specs.Lawful.{judged}
+use Rattle.rules.specs.Parts.{Parts}
 use Rattle.laws.specs.Position.{position-parts}
 use Rattle.laws.specs.Setup.{parts}
 use Rattle.notation.specs.Fen.{fen-parts}

@@ -6,8 +6,8 @@ use Prim.Native.Nat.{ℕ, _<_}
 use Rattle.std.specs.Options.{Cases}
 use Rattle.std.specs.declared.option.Option.{Option}
 use Rattle.std.specs.declared.option.Option.the-variants.{Some, None}
-use Rattle.laws.specs.Parts.{Parts}
-use Rattle.laws.specs.Lawful.{is-board}
+use Rattle.rules.specs.Parts.{Parts}
+use Rattle.rules.specs.Lawful.{is-board}
 use Rattle.notation.specs.Reader.{then, behind}
 use Rattle.notation.specs.Decimal.{digits, read-number}
 use Rattle.notation.specs.Fields.{ranks-text, read-ranks, side-letter, read-side, rights-text, read-rights, en-passant-text, read-en-passant}

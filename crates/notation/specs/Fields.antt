@@ -10,8 +10,8 @@ use Rattle.std.specs.declared.option.Option.the-variants.{Some, None}
 use Rattle.board.specs.declared.side.Side.{Side}
 use Rattle.board.specs.declared.side.Side.the-variants.{White, Black}
 use Rattle.board.specs.Piece.{letter, code-of-letter}
-use Rattle.laws.specs.declared.rights.Castling.{Castling}
-use Rattle.laws.specs.declared.rights.Rights.{Rights}
+use Rattle.rules.specs.declared.rights.Castling.{Castling}
+use Rattle.rules.specs.declared.rights.Rights.{Rights}
 use Rattle.notation.specs.Reader.{on, then, past, with, behind}
 
 -- a digit for the empty squares in a row, if there are any

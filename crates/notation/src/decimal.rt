@@ -57,18 +57,18 @@ pub fn number(text: &[u8], at: usize) -> Option<(u16, usize)>
 /// The digits of a number, at the end of an array.
 #[derive(Clone, Copy)]
 pub struct Digits {
-    bytes: [u8; 10],
+    bytes: [u8; 20],
     from: usize,
-    ghost within: { from < 10 },
+    ghost within: { from < 20 },
 }
 
 impl Digits {
     /// The digits of a number, with no leading zero.
-    pub fn of(number: u32) -> Digits
+    pub fn of(number: u64) -> Digits
         ensures { λ r. ⌜ drop (r .from) (r .bytes) ≡ digits-of number ⌝ }
     {
-        let mut bytes = [0; 10];
-        let mut from = 9;
+        let mut bytes = [0; 20];
+        let mut from = 19;
         let mut rest = number;
         while rest >= 10 {
             bytes[from] = b'0' + (rest % 10) as u8;
@@ -82,7 +82,7 @@ impl Digits {
     /// The digits as text.
     pub fn text(&self) -> &[u8]
         ensures value { λ r. ⌜ now r ≡ drop (now (self .entry) .from) (now (self .entry) .bytes) ⌝ }
-        ensures few { λ r. ⌜ length (now r) ≤ 10 ⌝ }
+        ensures few { λ r. ⌜ length (now r) ≤ 20 ⌝ }
     {
         &self.bytes[self.from..]
     }

@@ -1,10 +1,12 @@
 //! FEN: a position as a line of text.
+ghost use Prim.Native.Nat.{_≤_};
+ghost use lib.ListN.{length};
 ghost use mathlib.Core.Path.{_≡_};
 ghost use Rattle.std.specs.Options.{mapped, okOr};
 ghost use Rattle.std.specs.declared.option.Option.the-variants.{Some};
 ghost use Rattle.std.specs.Vec.{made};
 ghost use Rattle.faults.specs.declared.NotationFault.the-variants.{NotFen};
-ghost use Rattle.laws.specs.Parts.{Parts};
+ghost use Rattle.rules.specs.Parts.{Parts};
 ghost use Rattle.laws.specs.Position.{position-parts};
 ghost use Rattle.laws.specs.Setup.{parts};
 ghost use Rattle.notation.specs.Fen.{fen as fen-of, fen-parts, Reads-back, Only-fen};
@@ -14,9 +16,9 @@ use board::Board;
 use faults::NotationFault;
 use faults::SheetFault;
 use faults::SheetFromNotation;
-use laws::breach::SheetFromBreach;
 use laws::position::Position;
 use laws::setup::Setup;
+use rules::breach::SheetFromBreach;
 
 mod fields;
 mod lay;
@@ -75,6 +77,7 @@ pub fn write(position: &Position, out: &mut [u8]) -> Result<usize, SheetFault>
     ensures answer { λ r. ⌜ r ≡ write-answer (fen-of (position-parts (now (position .entry)))) (now (out .entry)) ⌝ }
     ensures buffer { λ _. ⌜ now (out .exit) ≡ written-over (fen-of (position-parts (now (position .entry)))) (now (out .entry)) ⌝ }
     ensures back { λ _. ⌜ fen-parts (fen-of (position-parts (now (position .entry)))) ≡ Some (position-parts (now (position .entry))) ⌝ }
+    ensures few { λ _. ⌜ length (fen-of (position-parts (now (position .entry)))) ≤ 124 ⌝ }
 {
     let setup = position.setup();
     let line = lay::line(&setup);

@@ -1,1 +1,9 @@
 pub mod LawfulLaws
+pub mod LawfulParts
+pub mod LegalLaws
+pub mod PawnLaws
+pub mod Writes
+pub mod MoveShapes
+pub mod BoardKept
+pub mod RightsKept
+pub mod StaysLawful

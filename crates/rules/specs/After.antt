@@ -49,8 +49,9 @@ touches m s = eqb (m .from) s || eqb (m .to) s
 -- a right falls when a move leaves or reaches its king's or its rook's home square
 abbrev pub castling-after : Side → Castling → Move → Castling
 castling-after side r m = record {
-    kingside = r .kingside && not (touches m (king-home side)) && not (touches m (kingside-home side));
-    queenside = r .queenside && not (touches m (king-home side)) && not (touches m (queenside-home side)) }
+  kingside = r .kingside && not (touches m (king-home side)) && not (touches m (kingside-home side));
+  queenside = r .queenside && not (touches m (king-home side)) && not (touches m (queenside-home side));
+}
 
 abbrev pub rights-after : Rights → Move → Rights
 rights-after r m = record { white = castling-after White (r .white) m; black = castling-after Black (r .black) m }
@@ -74,9 +75,10 @@ number-after Black n = counted-on n
 
 unfoldable pub after : Parts → Move → Parts
 after p m = record {
-    codes = codes-after p m;
-    side = other (p .side);
-    rights = rights-after (p .rights) m;
-    en-passant = en-passant-after p m;
-    clock = clock-after p m;
-    number = number-after (p .side) (p .number) }
+  codes = codes-after p m;
+  side = other (p .side);
+  rights = rights-after (p .rights) m;
+  en-passant = en-passant-after p m;
+  clock = clock-after p m;
+  number = number-after (p .side) (p .number);
+}

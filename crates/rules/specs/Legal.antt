@@ -73,15 +73,16 @@ unfoldable pub castles : Parts → Move → Bool
 castles p m =
     (holds (p .codes) (p .side) King (m .from) && eqb (m .from) (king-home (p .side)))
     and-then (
-      (eqb (m .to) (king-home (p .side) + 2) and-then castles-kingside (p .codes) (p .side) (own-rights p .kingside))
-      || (eqb (m .to) (king-home (p .side) - 2) and-then castles-queenside (p .codes) (p .side) (own-rights p .queenside)))
+    (eqb (m .to) (king-home (p .side) + 2) and-then castles-kingside (p .codes) (p .side) (own-rights p .kingside))
+    || (eqb (m .to) (king-home (p .side) - 2) and-then castles-queenside (p .codes) (p .side) (own-rights p .queenside)))
 
 -- a piece moves as its kind does, whatever becomes of its king
 unfoldable pub goes : Parts → Move → Bool
 goes p m =
     elim (is-pawn-move p m) [
-      true ↦ promotes (p .side) m && (pawn-advance (p .codes) (p .side) (m .from) (m .to) || pawn-capture (p .codes) (p .side) (p .en-passant) (m .from) (m .to))
-    | false ↦ eqb (m .promotion) 0 && (attacks-from (p .side) (p .codes) (m .from) (m .to) || castles p m) ]
+      | true ↦ promotes (p .side) m && (pawn-advance (p .codes) (p .side) (m .from) (m .to) || pawn-capture (p .codes) (p .side) (p .en-passant) (m .from) (m .to))
+      | false ↦ eqb (m .promotion) 0 && (attacks-from (p .side) (p .codes) (m .from) (m .to) || castles p m)
+    ]
 
 -- a move of an own piece, as its kind goes, to a square with no own piece, that does not leave the own king attacked
 unfoldable pub legal : Parts → Move → Bool

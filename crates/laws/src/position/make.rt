@@ -4,15 +4,15 @@ ghost use Rattle.rules.specs.Parts.{initial-parts};
 ghost use Rattle.rules.specs.Lawful.{judged};
 ghost use Rattle.laws.specs.Position.{position-parts, made-parts};
 ghost use Rattle.laws.specs.Setup.{parts};
-use rules::breach::Breach;
 use crate::lawful::broken;
 use crate::position::Position;
-use rules::rights::Castling;
-use rules::rights::Rights;
 use crate::setup::Setup;
 use board::Board;
 use board::picture::show;
 use board::side::Side;
+use rules::breach::Breach;
+use rules::rights::Castling;
+use rules::rights::Rights;
 
 impl Position {
     /// The position of these parts, or the first law that they break. The board, which is asked for attacks, is left as it was.

@@ -7,9 +7,9 @@ ghost use Rattle.laws.specs.Setup.{square-number};
 ghost use Rattle.notation.specs.Reader.{past as behind-byte, behind, rest-of};
 ghost use Rattle.notation.specs.Fields.{no-right, read-side, read-right, read-castling, read-rights, read-eighth, read-square, read-en-passant};
 use board::side::Side;
-use laws::rights::Castling;
-use laws::rights::Rights;
 use laws::square::Square;
+use rules::rights::Castling;
+use rules::rights::Rights;
 
 /// The place behind a byte that must stand at a place.
 pub fn past(text: &[u8], at: usize, byte: u8) -> Option<usize>

@@ -15,9 +15,9 @@ use crate::fen::line::Line;
 use crate::fen::placement::rank_end;
 use board::piece;
 use board::side::Side;
-use laws::rights::Rights;
 use laws::setup::Setup;
 use laws::square::Square;
+use rules::rights::Rights;
 
 /// A digit for so many empty squares in a row, if there are any.
 fn gap(line: &mut Line, count: u8)
@@ -116,11 +116,11 @@ fn en_passant(line: &mut Line, square: Option<Square>)
 
 /// A decimal number.
 fn decimal(line: &mut Line, number: u16)
-    requires { ⌜ now line .len ≤ 94 ⌝ }
+    requires { ⌜ now line .len ≤ 104 ⌝ }
     ensures text { λ _. ⌜ line-text (now (line .exit)) ≡ line-text (now (line .entry)) ++ digits-of number ⌝ }
-    ensures size { λ _. ⌜ now (line .exit) .len ≤ now (line .entry) .len + 10 ⌝ }
+    ensures size { λ _. ⌜ now (line .exit) .len ≤ now (line .entry) .len + 20 ⌝ }
 {
-    let digits = Digits::of(number as u32);
+    let digits = Digits::of(number as u64);
     line.append(digits.text());
 }
 

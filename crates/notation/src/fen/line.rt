@@ -7,9 +7,9 @@ ghost use mathlib.Core.Path.{_≡_};
 /// What is written so far, in front of an array with room for every FEN.
 #[derive(Drop)]
 pub struct Line {
-    bytes: [u8; 104],
+    bytes: [u8; 124],
     len: usize,
-    ghost within: { len ≤ 104 },
+    ghost within: { len ≤ 124 },
 }
 
 impl Line {
@@ -19,14 +19,14 @@ impl Line {
         ensures size { λ r. ⌜ r .len ≡ 0 ⌝ }
     {
         Line {
-            bytes: [0; 104],
+            bytes: [0; 124],
             len: 0,
         }
     }
 
     /// Writes a byte.
     pub fn push(&mut self, byte: u8)
-        requires { ⌜ now self .len < 104 ⌝ }
+        requires { ⌜ now self .len < 124 ⌝ }
         ensures text { λ _. ⌜ take (now (self .exit) .len) (now (self .exit) .bytes) ≡ take (now (self .entry) .len) (now (self .entry) .bytes) ++ (byte ∷ []) ⌝ }
         ensures size { λ _. ⌜ now (self .exit) .len ≡ now (self .entry) .len + 1 ⌝ }
     {
@@ -36,7 +36,7 @@ impl Line {
 
     /// Writes a text.
     pub fn append(&mut self, piece: &[u8])
-        requires { ⌜ now self .len + length (now piece) ≤ 104 ⌝ }
+        requires { ⌜ now self .len + length (now piece) ≤ 124 ⌝ }
         ensures text { λ _. ⌜ take (now (self .exit) .len) (now (self .exit) .bytes) ≡ take (now (self .entry) .len) (now (self .entry) .bytes) ++ now (piece .entry) ⌝ }
         ensures size { λ _. ⌜ now (self .exit) .len ≡ now (self .entry) .len + length (now (piece .entry)) ⌝ }
     {
@@ -47,7 +47,8 @@ impl Line {
 
     /// What is written.
     pub fn text(&self) -> &[u8]
-        ensures { λ r. ⌜ now r ≡ take (now (self .entry) .len) (now (self .entry) .bytes) ⌝ }
+        ensures value { λ r. ⌜ now r ≡ take (now (self .entry) .len) (now (self .entry) .bytes) ⌝ }
+        ensures few { λ r. ⌜ length (now r) ≤ 124 ⌝ }
     {
         &self.bytes[..self.len]
     }

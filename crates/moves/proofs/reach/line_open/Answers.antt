@@ -7,11 +7,11 @@ use Rattle.moves.proofs.reach.line_open.Needs as need
 
 pub returns-then-codes-at-ne0 : need.returns-then-codes-at-ne0
 returns-then-codes-at-ne0 c = λ l ne on. (
-      λ e. absurd (both-ways false refl e),
-      λ f. absurd (walk-stopped (c .args .codes .now) (c .args .from) (c .args .to) _ _ _ (c .loop-at .at) (c .loop-at .inv .0) (c .pre .0) (c .pre .1)
-        (c .min-low .ensures) (c .max-high .ensures) (c .step-between-step .ensures .0) (c .loop-at .inv .1) l ne on (c .loop-at-test .taken)
-        (c .if-codes-at-ne0 .taken) f),
-    )
+  λ e. absurd (both-ways false refl e),
+  λ f. absurd (walk-stopped (c .args .codes .now) (c .args .from) (c .args .to) _ _ _ (c .loop-at .at) (c .loop-at .inv .0) (c .pre .0) (c .pre .1)
+      (c .min-low .ensures) (c .max-high .ensures) (c .step-between-step .ensures .0) (c .loop-at .inv .1) l ne on (c .loop-at-test .taken)
+      (c .if-codes-at-ne0 .taken) f),
+)
 
 pub loop-at-again : need.loop-at-again
 loop-at-again c =
@@ -21,8 +21,8 @@ loop-at-again c =
 
 pub returns : need.returns
 returns c = λ l ne on. (
-      λ _. walk-ended (c .args .codes .now) (c .args .from) (c .args .to) _ _ _ (c .loop-at .at) (c .loop-at .inv .0) (c .pre .0) (c .pre .1)
-        (c .min-low .ensures) (c .max-high .ensures) (c .step-between-step .ensures .0) (c .loop-at .inv .1) l ne on (c .loop-at-test .left)
-        (c .loop-at .inv .2),
-      λ _. refl,
-    )
+  λ _. walk-ended (c .args .codes .now) (c .args .from) (c .args .to) _ _ _ (c .loop-at .at) (c .loop-at .inv .0) (c .pre .0) (c .pre .1)
+      (c .min-low .ensures) (c .max-high .ensures) (c .step-between-step .ensures .0) (c .loop-at .inv .1) l ne on (c .loop-at-test .left)
+      (c .loop-at .inv .2),
+  λ _. refl,
+)

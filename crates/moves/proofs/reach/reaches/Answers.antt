@@ -20,10 +20,10 @@ pub returns-then-slides-to : need.returns-then-slides-to
 returns-then-slides-to c =
     lines-open (c .args .side) (c .args .codes .now) (c .args .from) (c .args .to) _ (c .slides-to .ensures .0 (c .if-slides-to .taken)) (c .line-open .ensures)
     ∙ sym (line-attacks (c .args .side) (c .args .codes .now) (c .args .from) (c .args .to)
-      (λ e. c .if-found-code .left (e ∙ sym (c .code .ensures))) (λ e. c .if-found-code-2 .left (e ∙ sym (c .code-2 .ensures))) (λ e. c .if-found-code-3 .left (e ∙ sym (c .code-3 .ensures))))
+    (λ e. c .if-found-code .left (e ∙ sym (c .code .ensures))) (λ e. c .if-found-code-2 .left (e ∙ sym (c .code-2 .ensures))) (λ e. c .if-found-code-3 .left (e ∙ sym (c .code-3 .ensures))))
 
 pub returns-else-slides-to : need.returns-else-slides-to
 returns-else-slides-to c =
     sym (line-attacks (c .args .side) (c .args .codes .now) (c .args .from) (c .args .to)
-      (λ e. c .if-found-code .left (e ∙ sym (c .code .ensures))) (λ e. c .if-found-code-2 .left (e ∙ sym (c .code-2 .ensures))) (λ e. c .if-found-code-3 .left (e ∙ sym (c .code-3 .ensures)))
-      ∙ lines-shut (c .args .side) (c .args .codes .now) (c .args .from) (c .args .to) (not-from-decides _ (c .slides-to .ensures) (c .if-slides-to .left)))
+    (λ e. c .if-found-code .left (e ∙ sym (c .code .ensures))) (λ e. c .if-found-code-2 .left (e ∙ sym (c .code-2 .ensures))) (λ e. c .if-found-code-3 .left (e ∙ sym (c .code-3 .ensures)))
+    ∙ lines-shut (c .args .side) (c .args .codes .now) (c .args .from) (c .args .to) (not-from-decides _ (c .slides-to .ensures) (c .if-slides-to .left)))

@@ -1,4 +1,6 @@
-use mathlib.Core.Path.{ap, _∙_}
+use mathlib.Core.Path.{ap, subst, _∙_}
+use Prim.Native.Nat.{_≤_}
+use lib.ListN.{length}
 use Rattle.laws.specs.Position.{position-parts}
 use Rattle.laws.specs.Setup.{parts}
 use Rattle.notation.specs.Fen.{fen}
@@ -7,12 +9,12 @@ use Rattle.notation.proofs.fen.write.Needs as need
 
 pub returns-then-out-text : need.returns-then-out-text
 returns-then-out-text c =
-    let e = c .text-text .ensures ∙ c .line-line .ensures ∙ ap (λ s. fen (parts s)) (c .setup-setup .ensures) in
+    let e = c .text-text .ensures .value ∙ c .line-line .ensures ∙ ap (λ s. fen (parts s)) (c .setup-setup .ensures) in
     let w = written-short (c .text-text .result .now) (fen (position-parts (c .args .position .now))) (c .args .out .now) e (c .if-out-text .taken) in
-    record { answer = w .0; buffer = w .1; back = position-back (c .args .position .now) }
+    record { answer = w .0; buffer = w .1; back = position-back (c .args .position .now); few = subst (λ t. length t ≤ 124) e (c .text-text .ensures .few) }
 
 pub returns : need.returns
 returns c =
-    let e = c .text-text .ensures ∙ c .line-line .ensures ∙ ap (λ s. fen (parts s)) (c .setup-setup .ensures) in
+    let e = c .text-text .ensures .value ∙ c .line-line .ensures ∙ ap (λ s. fen (parts s)) (c .setup-setup .ensures) in
     let w = written-whole (c .text-text .result .now) (fen (position-parts (c .args .position .now))) (c .args .out .now) (c .copy-from-slice .last .self) e (c .if-out-text .left) (c .copy-from-slice .ensures .after) in
-    record { answer = w .0; buffer = w .1; back = position-back (c .args .position .now) }
+    record { answer = w .0; buffer = w .1; back = position-back (c .args .position .now); few = subst (λ t. length t ≤ 124) e (c .text-text .ensures .few) }

@@ -7,7 +7,7 @@ use Rattle.notation.proofs.decimal.Digits.of.Given as given
 
 abbrev pub Inv-loop-rest : given.InvT-loop-rest
 Inv-loop-rest l =
-    (l .from ≤ 9) × (length (l .bytes) ≡ 10) × (l .rest < 10 ^ (l .from + 1)) × (digits (l .number) ≡ digits (l .rest) ++ drop (l .from + 1) (l .bytes))
+    (l .from ≤ 19) × (length (l .bytes) ≡ 20) × (l .rest < 10 ^ (l .from + 1)) × (digits (l .number) ≡ digits (l .rest) ++ drop (l .from + 1) (l .bytes))
 
 abbrev pub μ-loop-rest : given.MeasureT-loop-rest
 μ-loop-rest l = l .rest
