@@ -82,10 +82,10 @@ pub fn position<B: Board>(
     ensures { λ r. ⌜ made r (λ _. vec-items (now (out .exit)) ≡ vec-items (now (out .entry)) ++ position-drawn (position-parts (now (position .entry)))) ⌝ }
 {
     position.show(board);
-    let setup = position.setup();
-    ranks(out, &setup.codes)?;
+    let side = position.setup.side;
+    ranks(out, &position.setup.codes)?;
     text(out, b"  a b c d e f g h\n")?;
-    text(out, turn(setup.side, in_check(board, setup.side)))?;
+    text(out, turn(side, in_check(board, side)))?;
     fen_line(out, position)?;
     text(out, b"\n\n")?;
     Ok(())

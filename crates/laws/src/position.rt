@@ -11,6 +11,6 @@ pub mod make;
 /// only while its king and rook are at home; an en passant square only just crossed by a double step; the counters in their range.
 #[derive(Clone, Copy)]
 pub struct Position {
-    setup: Setup,
+    pub setup: Setup,
     ghost ok: { lawful (parts setup) ≡ true },
 }

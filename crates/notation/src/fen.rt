@@ -79,8 +79,7 @@ pub fn write(position: &Position, out: &mut [u8]) -> Result<usize, SheetFault>
     ensures back { λ _. ⌜ fen-parts (fen-of (position-parts (now (position .entry)))) ≡ Some (position-parts (now (position .entry))) ⌝ }
     ensures few { λ _. ⌜ length (fen-of (position-parts (now (position .entry)))) ≤ 124 ⌝ }
 {
-    let setup = position.setup();
-    let line = lay::line(&setup);
+    let line = lay::line(&position.setup);
     let text = line.text();
     if out.len() < text.len() {
         return Err(SheetFault::BufferShort);

@@ -33,13 +33,6 @@ impl Position {
         show(board, &self.setup.codes);
     }
 
-    /// The parts of the position.
-    pub fn setup(&self) -> Setup
-        ensures { λ r. ⌜ r ≡ now (self .entry) .setup ⌝ }
-    {
-        self.setup
-    }
-
     /// The initial position.
     pub fn initial() -> Position
         ensures { λ r. ⌜ position-parts r ≡ initial-parts ⌝ }

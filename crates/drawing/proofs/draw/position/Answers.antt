@@ -12,14 +12,10 @@ pub returns : need.returns
 unfolding position-drawn
 returns g c =
     let p = position-parts (c .args .position .now) in
-    let s = c .setup-setup .ensures in
-    let check = c .in-check .ensures .answer ∙ ap (in-check (c .setup-setup .result .side)) (c .show .ensures) in
+    let check = c .in-check .ensures .answer ∙ ap (in-check (p .side)) (c .show .ensures) in
     five (vec-items (c .args .out .now)) (vec-items (c .ranks .last .out)) (vec-items (c .text .last .out)) (vec-items (c .text-2 .last .out))
     (vec-items (c .fen-line .last .out)) (vec-items (c .text-3 .last .out))
     (ranks-drawn (p .codes) 8) files-drawn (turn-drawn (p .side) (in-check (p .side) (p .codes))) (fen p) (line-feed ∷ line-feed ∷ [])
-    (c .in-Continue-ranks .ensures tt ∙ ap (λ x. vec-items (c .args .out .now) ++ ranks-drawn (x .codes) 8) s)
-    (c .in-Continue-text .ensures tt)
-    (c .in-Continue-text-2 .ensures tt
-    ∙ ap (λ x. vec-items (c .text .last .out) ++ x) (c .turn .ensures ∙ ap (turn-drawn (c .setup-setup .result .side)) check
-    ∙ ap (λ x. turn-drawn (x .side) (in-check (x .side) (p .codes))) s))
+    (c .in-Continue-ranks .ensures tt) (c .in-Continue-text .ensures tt)
+    (c .in-Continue-text-2 .ensures tt ∙ ap (λ x. vec-items (c .text .last .out) ++ x) (c .turn .ensures ∙ ap (turn-drawn (p .side)) check))
     (c .in-Continue-fen-line .ensures tt) (c .in-Continue-text-3 .ensures tt)

@@ -1,7 +1,7 @@
 use mathlib.Core.Path.{refl}
-use Rattle.rules.specs.Opened.{laws-open}
+use Rattle.rules.specs.Opened.{rules-open}
 use Rattle.laws.proofs.position.Position.initial.Needs as need
 
 pub ghost-result : need.ghost-result
-unfolding laws-open
+unfolding rules-open
 ghost-result c = (refl, tt)

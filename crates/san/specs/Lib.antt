@@ -1,0 +1,5 @@
+pub mod Said
+pub mod Written
+pub mod Text
+pub mod Theorems
+pub mod Opened

@@ -1,0 +1,1 @@
+//! SAN and move text as definitions, and what is proved of them.
