@@ -7,6 +7,8 @@ mod tests {
     use board::picture::picture;
     use board::picture::show;
     use board::side::Side;
+    use bitboard::Bitboard;
+    use bitboard::BitboardBoard;
     use mailbox::Mailbox;
     use mailbox::MailboxBoard;
     use std::test::*;
@@ -127,5 +129,10 @@ mod tests {
     #[test]
     fn mailbox_answers() -> Result<(), Fail> {
         all(&mut Mailbox::new())
+    }
+
+    #[test]
+    fn bitboard_answers() -> Result<(), Fail> {
+        all(&mut Bitboard::new())
     }
 }
