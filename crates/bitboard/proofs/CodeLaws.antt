@@ -15,7 +15,7 @@ use Rattle.std.proofs.shelf.Lists.{ext-getD, length-set, getD-set-same, getD-se
 use Rattle.std.proofs.shelf.Tests.{cases-lt, cases-eq, cases-order, eq-eqb, ne-eqb, eqb-true, both-ways, false≢true, or-left, or-right}
 use Rattle.board.specs.Below.{least-below}
 use Rattle.board.specs.Meaning.{empty-board, next-holding}
-use Rattle.board.proofs.BelowLaws.{least-found, least-none, least-some, least-passed, same-tests}
+use Rattle.board.proofs.BelowLaws.{least-found, least-none, least-some, least-passed, least-same, same-tests}
 use Rattle.rays.specs.Sets.{has, Set-of}
 use Rattle.rays.proofs.SetLaws.{has-zero, has-or}
 use Rattle.bitboard.specs.Codes.{in-word, code-of, code-at, codes-of, Apart, Lifted, Placed}
@@ -182,11 +182,6 @@ pub codes-in : (words : List ℕ) → Apart words → (c s : ℕ) → c < 12 →
 codes-in words apart c s hc hs = word-is words apart c s hc hs ∙ ap (λ x. eqb x (suc c)) (sym (codes-at words s hs))
 
 -- the next square of a code
-least-same : (n : ℕ) (p q : ℕ → Bool) → ((k : ℕ) → k < n → p k ≡ q k) → least-below n p ≡ least-below n q
-unfolding least-below
-least-same zero p q f = refl
-least-same (suc n) p q f = rw (f n (omega arith), least-same n p q (λ k h. f k (omega arith)))
-
 pub next-is : (codes : List ℕ) (from c of-code up : ℕ) → Set-of (λ s. eqb (getD codes s 0) c) of-code → Set-of (λ s. leb from s && has of-code s) up
     → least-below 64 (has up) ≡ next-holding codes from c
 unfolding next-holding

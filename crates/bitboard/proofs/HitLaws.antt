@@ -17,11 +17,11 @@ use Rattle.board.specs.Piece.{code, holds}
 use Rattle.board.specs.Attack.{pawn-attack, slides, clear-between, attacks-along, attacks}
 use Rattle.board.proofs.BelowLaws.{decides-some, decides-itself, some-same, all-same}
 use Rattle.board.proofs.AttackLaws.{Along, Lined, Stepped, Stepping, decides-along, decides-reached, slides-zero}
+use Rattle.board.specs.Hits.{step-hit, line-hit}
 use Rattle.rays.specs.Sets.{has, Set-of}
 use Rattle.rays.specs.Lines.{free-between, first-on}
 use Rattle.rays.proofs.LineLaws.{lies-within}
 use Rattle.bitboard.proofs.CodeLaws.{twice}
-use Rattle.bitboard.specs.Hits.{step-hit, line-hit, lines-hit}
 
 -- a piece that steps: its squares meet those from which it attacks
 pub step-answer : (side : Side) (codes : List ℕ) (kind : Kind) (step : ℕ → ℕ → Bool) (t at from : ℕ) → t < 64
@@ -67,26 +67,3 @@ module _ (side : Side) (codes : List ℕ) (straight diagonal occupied t : ℕ) (
 
   pub first-line : (d : ℕ) → d < 8 → first-hit straight diagonal occupied d t ≡ line-hit side codes d t
   first-line d hd = line-answer side codes d t occupied (sliders straight diagonal d) hd ht full (picked d (eqb (d % 2) 0) refl)
-
--- the four searches together are the attack test
-decides-step : (side : Side) (codes : List ℕ) (kind : Kind) (step : ℕ → ℕ → Bool) (t : ℕ) → Decides (step-hit side codes kind step t) (Stepping side codes kind step t)
-unfolding step-hit
-decides-step side codes kind step t =
-    decides-some 64 (λ s. holds codes side kind s && step s t) (λ s. Stepped side codes kind step s t)
-    (λ s. decides-and _ _ (decides-eqb (getD codes s 0) (code side kind)) (decides-itself (step s t)))
-
-decides-line : (side : Side) (codes : List ℕ) (d t : ℕ) → Decides (line-hit side codes d t) (Lined side codes d t)
-unfolding line-hit
-decides-line side codes d t = decides-some 64 (λ s. attacks-along side codes d s t) (λ s. Along side codes d s t) (λ s. decides-along side codes d s t)
-
-decides-lines : (side : Side) (codes : List ℕ) (t : ℕ) → Decides (lines-hit side codes t) ((d : ℕ) × (d < 8) × Lined side codes d t)
-unfolding lines-hit
-decides-lines side codes t = decides-some 8 (λ d. line-hit side codes d t) (λ d. Lined side codes d t) (λ d. decides-line side codes d t)
-
-pub attacks-by-kind : (side : Side) (codes : List ℕ) (t : ℕ) → t < 64 →
-    attacks side codes t ≡ (step-hit side codes Pawn (pawn-attack side) t || (step-hit side codes Knight knight-step t || (step-hit side codes King king-step t || lines-hit side codes t)))
-attacks-by-kind side codes t ht =
-    same-from-decides _ _ (decides-reached side codes t ht)
-    (decides-or _ _ (decides-step side codes Pawn (pawn-attack side) t)
-    (decides-or _ _ (decides-step side codes Knight knight-step t)
-    (decides-or _ _ (decides-step side codes King king-step t) (decides-lines side codes t))))

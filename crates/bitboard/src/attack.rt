@@ -8,7 +8,7 @@ ghost use Rattle.board.specs.Piece.{holds};
 ghost use Rattle.board.specs.Attack.{pawn-attack, attacks};
 ghost use Rattle.rays.specs.Sets.{Set-of};
 ghost use Rattle.bitboard.specs.Codes.{codes-of, Apart};
-ghost use Rattle.bitboard.specs.Hits.{step-hit, lines-hit};
+ghost use Rattle.board.specs.Hits.{step-hit, lines-hit};
 use crate::words::occupied;
 use crate::words::squares;
 use board::piece;

@@ -110,3 +110,8 @@ least-some (suc n) m p e =
     let q = h .2 in
     (omega arith, subst (λ k. p k ≡ true) q (h .1), λ k l. least-passed n p (h .0) k (omega arith)))
     (some-parts (least-below n p) (p n) n m e)
+
+pub least-same : (n : ℕ) (p q : ℕ → Bool) → ((k : ℕ) → k < n → p k ≡ q k) → least-below n p ≡ least-below n q
+unfolding least-below
+least-same zero p q f = refl
+least-same (suc n) p q f = rw (f n (omega arith), least-same n p q (λ k h. f k (omega arith)))

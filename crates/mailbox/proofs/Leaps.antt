@@ -17,7 +17,8 @@ use Rattle.board.specs.Geometry.{knight-step, king-step}
 use Rattle.board.specs.Piece.{code, holds}
 use Rattle.board.specs.Attack.{pawn-attack}
 use Rattle.board.proofs.BelowLaws.{all-at, some-at, some-from, same-tests}
-use Rattle.mailbox.specs.Cells.{cell-of, square-of, codes-of, Bordered, leap-hit, step-hit, knight-leaps, king-leaps, pawn-leaps}
+use Rattle.board.specs.Hits.{step-hit}
+use Rattle.mailbox.specs.Cells.{cell-of, square-of, codes-of, Bordered, leap-hit, knight-leaps, king-leaps, pawn-leaps}
 use Rattle.mailbox.proofs.CellFacts.{implies, implied}
 use Rattle.mailbox.proofs.CellLists.{codes-at, read-cell, Inner, Outer}
 

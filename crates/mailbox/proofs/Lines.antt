@@ -18,14 +18,12 @@ use Rattle.board.specs.Piece.{code, holds}
 use Rattle.board.specs.Attack.{pawn-attack, slides, attacks-along, attacks}
 use Rattle.board.proofs.BelowLaws.{decides-some, decides-itself, not-passed, same-tests}
 use Rattle.board.proofs.AttackLaws.{Along, Lined, Stepped, Stepping, decides-along, decides-reached, slides-zero}
-use Rattle.mailbox.specs.Cells.{cell-of, square-of, codes-of, steps, Bordered, step-hit, line-hit, lines-hit}
+use Rattle.board.specs.Hits.{line-hit}
+use Rattle.board.proofs.HitLaws.{decides-line}
+use Rattle.mailbox.specs.Cells.{cell-of, square-of, codes-of, steps, Bordered}
 use Rattle.mailbox.proofs.CellFacts.{cell-of-square}
 use Rattle.mailbox.proofs.CellLists.{read-cell, Inner, Outer}
 use Rattle.mailbox.proofs.Walk.{adjacent, progress, next-beyond, beyond-next, step, no-gap, further, furthest, stepped, stepped-in, stepped-on, stepped-off}
-
-pub decides-line : (side : Side) (codes : List ℕ) (d t : ℕ) → Decides (line-hit side codes d t) (Lined side codes d t)
-unfolding line-hit
-decides-line side codes d t = decides-some 64 (λ s. attacks-along side codes d s t) (λ s. Along side codes d s t) (λ s. decides-along side codes d s t)
 
 -- a walk from t of k steps has come to a cell, and every square that it passed is empty
 pub record Walked (codes : List ℕ) (d t k at : ℕ) : Type 0 where
@@ -117,22 +115,3 @@ module _ (side : Side) (cells : List ℕ) (border : Bordered cells) (d t k at : 
   walk-end h =
       line-none side (codes-of cells) d t k at w
       (λ s hs. furthest (direction d) (w .square) s (w .on) hs (let f = w .far in omega arith))
-
--- the four searches together are the attack test
-decides-step : (side : Side) (codes : List ℕ) (kind : Kind) (move : ℕ → ℕ → Bool) (t : ℕ) → Decides (step-hit side codes kind move t) (Stepping side codes kind move t)
-unfolding step-hit
-decides-step side codes kind move t =
-    decides-some 64 (λ s. holds codes side kind s && move s t) (λ s. Stepped side codes kind move s t)
-    (λ s. decides-and _ _ (decides-eqb (getD codes s 0) (code side kind)) (decides-itself (move s t)))
-
-decides-lines : (side : Side) (codes : List ℕ) (t : ℕ) → Decides (lines-hit side codes t) ((d : ℕ) × (d < 8) × Lined side codes d t)
-unfolding lines-hit
-decides-lines side codes t = decides-some 8 (λ d. line-hit side codes d t) (λ d. Lined side codes d t) (λ d. decides-line side codes d t)
-
-pub attacks-by-kind : (side : Side) (codes : List ℕ) (t : ℕ) → t < 64 →
-    attacks side codes t ≡ (step-hit side codes Pawn (pawn-attack side) t || (step-hit side codes Knight knight-step t || (step-hit side codes King king-step t || lines-hit side codes t)))
-attacks-by-kind side codes t ht =
-    same-from-decides _ _ (decides-reached side codes t ht)
-    (decides-or _ _ (decides-step side codes Pawn (pawn-attack side) t)
-    (decides-or _ _ (decides-step side codes Knight knight-step t)
-    (decides-or _ _ (decides-step side codes King king-step t) (decides-lines side codes t))))

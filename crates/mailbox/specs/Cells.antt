@@ -53,14 +53,3 @@ pawn-leaps Black = 30 ∷ 32 ∷ []
 -- a code stands at one of the leaps from t
 unfoldable pub leap-hit : List ℕ → ℕ → ℕ → List ℕ → Bool
 leap-hit cells t code leaps = some-below (length leaps) (λ i. eqb (getD cells (cell-of t + getD leaps i 0 - 21) 0) code)
-
--- a piece of a kind that steps attacks t
-unfoldable pub step-hit : Side → List ℕ → Kind → (ℕ → ℕ → Bool) → ℕ → Bool
-step-hit side codes kind step t = some-below 64 (λ s. holds codes side kind s && step s t)
-
--- a line piece attacks t from direction d; from some direction
-unfoldable pub line-hit : Side → List ℕ → ℕ → ℕ → Bool
-line-hit side codes d t = some-below 64 (λ s. attacks-along side codes d s t)
-
-unfoldable pub lines-hit : Side → List ℕ → ℕ → Bool
-lines-hit side codes t = some-below 8 (λ d. line-hit side codes d t)

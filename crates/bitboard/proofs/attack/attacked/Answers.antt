@@ -1,7 +1,7 @@
 use native.Mathlib.Omega.{arith}
 use Rattle.std.proofs.shelf.Ways.{tells}
 use Rattle.bitboard.specs.Codes.{codes-of}
-use Rattle.bitboard.proofs.HitLaws.{attacks-by-kind}
+use Rattle.board.proofs.HitLaws.{attacks-by-kind}
 use Rattle.bitboard.proofs.attack.attacked.Needs as need
 
 pub returns-then-king : need.returns-then-king

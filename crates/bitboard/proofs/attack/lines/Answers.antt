@@ -9,7 +9,7 @@ use Rattle.board.proofs.BelowLaws.{some-from, some-none}
 use Rattle.rays.specs.Sets.{has}
 use Rattle.rays.specs.Lines.{first-on}
 use Rattle.bitboard.specs.Codes.{codes-of}
-use Rattle.bitboard.specs.Hits.{lines-hit}
+use Rattle.board.specs.Hits.{lines-hit}
 use Rattle.bitboard.proofs.HitLaws.{sliders, first-hit, first-line}
 use Rattle.bitboard.proofs.attack.lines.Needs as need
 use Rattle.bitboard.proofs.attack.lines.Needs.{After-first-among, then-d-eq0, else-d-eq0}

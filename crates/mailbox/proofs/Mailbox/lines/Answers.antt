@@ -1,7 +1,7 @@
 use mathlib.Core.Path.{sym}
 use native.Mathlib.Omega.{arith}
 use Rattle.board.proofs.BelowLaws.{some-from, some-none}
-use Rattle.mailbox.specs.Cells.{lines-hit}
+use Rattle.board.specs.Hits.{lines-hit}
 use Rattle.mailbox.proofs.Mailbox.lines.Needs as need
 
 pub returns-then-line : need.returns-then-line

@@ -1,7 +1,8 @@
 use mathlib.Core.Path.{_≡_}
 use mathlib.Core.Bool.{false}
 use Prim.Native.Nat.{ℕ, _<_}
-use Rattle.mailbox.specs.Cells.{codes-of, line-hit}
+use Rattle.board.specs.Hits.{line-hit}
+use Rattle.mailbox.specs.Cells.{codes-of}
 use Rattle.mailbox.proofs.Mailbox.lines.Given as given
 
 abbrev pub Inv-loop-d : given.InvT-loop-d

@@ -4,7 +4,7 @@ use native.Mathlib.Omega.{arith}
 use Rattle.std.proofs.shelf.Ways.{tells}
 use Rattle.board.proofs.AttackLaws.{attacks-past}
 use Rattle.mailbox.specs.Cells.{codes-of}
-use Rattle.mailbox.proofs.Lines.{attacks-by-kind}
+use Rattle.board.proofs.HitLaws.{attacks-by-kind}
 use Rattle.mailbox.proofs.MailboxBoard.attacked.Needs as need
 
 pub returns-then-square-gt63 : need.returns-then-square-gt63

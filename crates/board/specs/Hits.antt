@@ -1,12 +1,12 @@
--- Attacks on a square, by kind and by direction.
+-- Attacks on a square by the kind of the piece and by direction: how a make of board searches.
 use Prim.Native.Nat.{ℕ}
 use mathlib.Core.Bool.{Bool, _&&_}
 use mathlib.Core.List.{List}
 use Rattle.board.specs.declared.side.Side.{Side}
 use Rattle.board.specs.declared.piece.Kind.{Kind}
 use Rattle.board.specs.Below.{some-below}
 use Rattle.board.specs.Piece.{holds}
 use Rattle.board.specs.Attack.{attacks-along}
 
 -- a piece of a kind that steps attacks t
 unfoldable pub step-hit : Side → List ℕ → Kind → (ℕ → ℕ → Bool) → ℕ → Bool
