@@ -5,18 +5,16 @@ use mathlib.Core.List.{List}
 use Prim.Native.Nat.{ℕ, _%_, _<_}
 use lib.Dec.{eqb, ltb}
 use lib.ListN.{getD}
-use Rattle.std.specs.Orderings.{Decides}
 use Rattle.std.proofs.shelf.Tests.{ne-eqb, lt-ltb, false≢true}
-use Rattle.std.proofs.shelf.Ways.{decides-or, decides-and, decides-eqb, same-from-decides}
 use Rattle.board.specs.declared.side.Side.{Side}
 use Rattle.board.specs.declared.piece.Kind.{Kind}
-use Rattle.board.specs.declared.piece.Kind.the-variants.{Pawn, Knight, Bishop, Rook, Queen, King}
+use Rattle.board.specs.declared.piece.Kind.the-variants.{Bishop, Rook, Queen}
 use Rattle.board.specs.Below.{some-below, _and-then_}
-use Rattle.board.specs.Geometry.{direction, beyond, knight-step, king-step}
-use Rattle.board.specs.Piece.{code, holds}
-use Rattle.board.specs.Attack.{pawn-attack, slides, clear-between, attacks-along, attacks}
-use Rattle.board.proofs.BelowLaws.{decides-some, decides-itself, some-same, all-same}
-use Rattle.board.proofs.AttackLaws.{Along, Lined, Stepped, Stepping, decides-along, decides-reached, slides-zero}
+use Rattle.board.specs.Geometry.{direction, beyond}
+use Rattle.board.specs.Piece.{holds}
+use Rattle.board.specs.Attack.{slides, clear-between, attacks-along}
+use Rattle.board.proofs.BelowLaws.{some-same, all-same}
+use Rattle.board.proofs.AttackLaws.{slides-zero}
 use Rattle.board.specs.Hits.{step-hit, line-hit}
 use Rattle.rays.specs.Sets.{has, Set-of}
 use Rattle.rays.specs.Lines.{free-between, first-on}

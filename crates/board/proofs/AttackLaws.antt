@@ -1,20 +1,20 @@
 -- The attack test, taken apart: what each make of board shows of its own search.
-use mathlib.Core.Path.{_≡_, refl, sym, ap, subst, _∙_}
-use mathlib.Core.Bool.{Bool, true, false, cond, not, _&&_, _||_}
+use mathlib.Core.Path.{_≡_, refl, subst}
+use mathlib.Core.Bool.{Bool, true, false, not, _&&_, _||_}
 use mathlib.Core.List.{List}
-use mathlib.Core.Logic.{_⊎_, inl, inr, ⊎-elim}
-use Prim.Native.Nat.{ℕ, _+_, _%_, _<_, _≤_}
+use mathlib.Core.Logic.{_⊎_, inl, inr}
+use Prim.Native.Nat.{ℕ, _<_, _≤_}
 use native.Mathlib.Omega.{arith}
-use lib.Dec.{eqb, ltb}
+use lib.Dec.{eqb}
 use lib.ListN.{getD}
 use Rattle.std.specs.Orderings.{Decides}
-use Rattle.std.proofs.shelf.Tests.{false≢true, both-ways, lt-ltb, le-ltb, and-left}
+use Rattle.std.proofs.shelf.Tests.{false≢true, both-ways, le-ltb, and-left}
 use Rattle.std.proofs.shelf.Ways.{tells, decides-like, decides-and, decides-or, decides-eqb, decides-ltb}
 use Rattle.board.specs.declared.side.Side.{Side}
 use Rattle.board.specs.declared.side.Side.the-variants.{White, Black}
 use Rattle.board.specs.declared.piece.Kind.{Kind}
 use Rattle.board.specs.declared.piece.Kind.the-variants.{Pawn, Knight, Bishop, Rook, Queen, King}
-use Rattle.board.specs.Below.{some-below, all-below, _and-then_}
+use Rattle.board.specs.Below.{some-below, _and-then_}
 use Rattle.board.specs.Geometry.{direction, beyond, knight-step, king-step}
 use Rattle.board.specs.Piece.{code, other, holds}
 use Rattle.board.specs.Attack.{pawn-attack, slides, clear-between, attacks-along, attacks-from, attacks, in-check}

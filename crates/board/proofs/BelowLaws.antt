@@ -1,16 +1,15 @@
 -- Laws of the tests over the numbers below a bound.
-use mathlib.Core.Path.{_≡_, refl, sym, ap, subst, _∙_}
-use mathlib.Core.Bool.{Bool, true, false, cond, not, _&&_, _||_}
+use mathlib.Core.Path.{_≡_, refl, sym, subst}
+use mathlib.Core.Bool.{Bool, true, false, cond}
 use mathlib.Core.Logic.{_⊎_, inl, inr, ⊎-elim}
-use Prim.Native.Nat.{ℕ, zero, suc, _+_, _≤_, _<_}
-use native.Mathlib.Numerals.{add-one}
+use Prim.Native.Nat.{ℕ, zero, suc, _<_}
 use native.Mathlib.Omega.{arith}
 use Rattle.std.specs.declared.option.Option.{Option}
 use Rattle.std.specs.declared.option.Option.the-variants.{Some, None}
-use Rattle.std.specs.Options.{orOther, isSome, Cases}
+use Rattle.std.specs.Options.{orOther}
 use Rattle.std.specs.Orderings.{Decides}
-use Rattle.std.proofs.shelf.Tests.{and-parts, and-from, or-cases, or-left, or-right, cases-eq, both-ways, false≢true}
-use Rattle.std.proofs.shelf.Ways.{decides-below-or, decides-below-and, same-from-decides}
+use Rattle.std.proofs.shelf.Tests.{cases-eq, both-ways, false≢true}
+use Rattle.std.proofs.shelf.Ways.{decides-below-or, decides-below-and}
 use Rattle.board.specs.Below.{some-below, all-below, least-below, _and-then_}
 
 -- two tests that follow from one another are equal

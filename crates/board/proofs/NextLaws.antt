@@ -1,15 +1,14 @@
 -- What the next square that holds a code tells.
-use mathlib.Core.Path.{_≡_, refl, sym, _∙_}
-use mathlib.Core.Bool.{Bool, true, false, _&&_}
+use mathlib.Core.Path.{_≡_}
+use mathlib.Core.Bool.{false, _&&_}
 use mathlib.Core.List.{List}
 use Prim.Native.Nat.{ℕ, _≤_, _<_}
-use native.Mathlib.Omega.{arith}
 use lib.Dec.{eqb, leb}
 use lib.ListN.{getD}
 use Rattle.std.specs.declared.option.Option.the-variants.{Some, None}
 use Rattle.std.proofs.shelf.Tests.{both-ways, and-from, and-parts, le-leb, leb-true, eq-eqb, eqb-true}
 use Rattle.board.specs.Meaning.{next-holding}
-use Rattle.board.proofs.BelowLaws.{least-some, least-passed, least-found, least-none}
+use Rattle.board.proofs.BelowLaws.{least-some, least-passed}
 
 module _ (codes : List ℕ) (from c : ℕ) where
   passed : (k : ℕ) → (leb from k && eqb (getD codes k 0) c) ≡ false → from ≤ k → getD codes k 0 ≡ c → ⊥

@@ -1,6 +1,6 @@
 -- Puts: one that is taken back, and all of a picture.
-use mathlib.Core.Path.{_≡_, refl, sym, ap, _∙_}
-use mathlib.Core.Bool.{Bool, true, false, cond, _&&_}
+use mathlib.Core.Path.{_≡_, sym, ap, _∙_}
+use mathlib.Core.Bool.{true, false}
 use mathlib.Core.List.{List}
 use mathlib.Core.Logic.{_⊎_, inl, inr, ⊎-elim}
 use Prim.Native.Nat.{ℕ, zero, suc, _≤_, _<_}
@@ -8,7 +8,7 @@ use native.Mathlib.Omega.{arith}
 use lib.Dec.{ltb, leb}
 use lib.ListN.{length, getD, set}
 use Rattle.std.proofs.shelf.Lists.{set-set, set-getD, length-set, getD-set-same, getD-set-other, ext-getD}
-use Rattle.std.proofs.shelf.Tests.{cases-bool, cases-eq, cases-lt, and-from, and-right, and-left, and-parts, lt-ltb, le-ltb, le-leb, lt-leb, ltb-true, leb-true, cond-true, cond-false}
+use Rattle.std.proofs.shelf.Tests.{cases-bool, cases-eq, and-from, and-right, and-left, and-parts, lt-ltb, le-ltb, le-leb, lt-leb, ltb-true, leb-true, cond-true, cond-false}
 use Rattle.board.specs.Meaning.{can-put, put-answer, put-list, put-below, Shown}
 
 pub can-from : (s c : ℕ) → s < 64 → c ≤ 12 → can-put s c ≡ true

@@ -1,23 +1,23 @@
 -- The attack test says what the laws of chess say.
-use mathlib.Core.Path.{_≡_, refl, sym, ap, subst, _∙_}
-use mathlib.Core.Bool.{Bool, true, false, cond, not, _&&_, _||_}
+use mathlib.Core.Path.{_≡_, refl, sym, subst}
+use mathlib.Core.Bool.{true, _||_}
 use mathlib.Core.List.{List}
 use mathlib.Core.Logic.{_⊎_, inl, inr, ⊎-elim}
-use Prim.Native.Nat.{ℕ, zero, suc, _+_, _-_, _/_, _%_, _<_, _≤_}
+use Prim.Native.Nat.{ℕ, zero, suc, _-_, _<_, _≤_}
 use native.Mathlib.Omega.{arith}
-use lib.Dec.{eqb, leb, ltb}
+use lib.Dec.{eqb}
 use lib.ListN.{getD}
 use Rattle.std.specs.Orderings.{Decides}
 use Rattle.std.proofs.shelf.Tests.{cases-lt, cases-eq, or-cases, or-left, or-right, eqb-true, eq-eqb}
 use Rattle.std.proofs.shelf.Ways.{tells, decides-like}
 use Rattle.board.specs.declared.side.Side.{Side}
 use Rattle.board.specs.declared.side.Side.the-variants.{White, Black}
-use Rattle.board.specs.declared.piece.Kind.the-variants.{Pawn, Knight, Bishop, Rook, Queen, King}
-use Rattle.board.specs.Geometry.{Direction, East, NorthWest, North, NorthEast, West, SouthEast, South, SouthWest, direction, beyond, file, rank, near, far, knight-step, king-step}
+use Rattle.board.specs.declared.piece.Kind.the-variants.{Bishop, Rook, Queen, King}
+use Rattle.board.specs.Geometry.{Direction, East, NorthWest, North, NorthEast, West, SouthEast, South, SouthWest, direction, beyond, file, rank, knight-step, king-step}
 use Rattle.board.specs.Piece.{other, code}
 use Rattle.board.specs.Attack.{pawn-attack, slides, attacks-from, attacks, in-check}
 use Rattle.board.specs.Rule.{Line, Rank, File, Diagonal, On, files, ranks, Strictly-between, Reaches, One-ahead, Attacks, pawn, knight, bishop, rook, queen, king, In-check}
-use Rattle.board.proofs.AttackLaws.{Along, From, Stepped, decides-from, decides-attacks, decides-check}
+use Rattle.board.proofs.AttackLaws.{Along, From, decides-from, decides-attacks, decides-check}
 
 -- the line of a direction
 abbrev pub line : Direction → Line

@@ -1,14 +1,13 @@
 //! The parts of a drawing.
 ghost use Prim.Native.Nat.{_+_, _-_, _<_};
-ghost use mathlib.Core.List.{List, _∷_, _++_};
+ghost use mathlib.Core.List.{_++_};
 ghost use mathlib.Core.Path.{_≡_};
 ghost use Rattle.std.specs.Of.Vec.{vec-items};
 ghost use Rattle.std.specs.Vec.{made};
-ghost use Rattle.board.specs.Attack.{in-check};
 ghost use Rattle.laws.specs.Position.{position-parts};
 ghost use Rattle.notation.specs.Decimal.{digits};
 ghost use Rattle.notation.specs.Fen.{fen as fen-text};
-ghost use Rattle.drawing.specs.Drawing.{squares-drawn, rank-drawn, ranks-drawn, turn-drawn, position-drawn, fault-drawn};
+ghost use Rattle.drawing.specs.Drawing.{rank-drawn, ranks-drawn, turn-drawn, position-drawn, fault-drawn};
 use board::Board;
 use board::check::in_check;
 use board::piece;

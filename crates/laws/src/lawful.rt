@@ -1,12 +1,12 @@
 //! The tests of the laws.
-ghost use Prim.Native.Nat.{ℕ, _≤_};
-ghost use lib.ListN.{length, getD};
+ghost use Prim.Native.Nat.{_≤_};
+ghost use lib.ListN.{getD};
 ghost use mathlib.Core.Bool.{true};
 ghost use mathlib.Core.Path.{_≡_};
 ghost use Rattle.std.specs.Options.{mapped};
 ghost use Rattle.std.specs.declared.option.Option.the-variants.{Some};
 ghost use Rattle.board.specs.Attack.{in-check};
-ghost use Rattle.rules.specs.Lawful.{is-board, count as counted, one-king-each, is-pawn as pawn, edges-free, right-stands, rights-stand, side-rights-stand, king-home, ahead, en-passant-rank, en-passant-stands, counters-stand, broken as first-broken-law};
+ghost use Rattle.rules.specs.Lawful.{is-board, count as counted, one-king-each, is-pawn as pawn, edges-free, right-stands, rights-stand, ahead, en-passant-rank, en-passant-stands, counters-stand, broken as first-broken-law};
 ghost use Rattle.laws.specs.Setup.{parts, square-number};
 use crate::setup::Setup;
 use crate::square::Square;

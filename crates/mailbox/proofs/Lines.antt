@@ -1,23 +1,19 @@
 -- What a walk from a square to the first piece tells of the line pieces that attack the square.
 use mathlib.Core.Path.{_≡_, refl, sym, ap, _∙_}
-use mathlib.Core.Bool.{Bool, true, false, _&&_, _||_}
+use mathlib.Core.Bool.{true, false}
 use mathlib.Core.List.{List}
 use mathlib.Core.Logic.{_⊎_, inl, inr, ⊎-elim}
 use Prim.Native.Nat.{ℕ, _+_, _-_, _≤_, _<_}
 use native.Mathlib.Omega.{arith}
 use lib.ListN.{getD}
-use Rattle.std.specs.Orderings.{Decides}
 use Rattle.std.proofs.shelf.Tests.{cases-eq}
-use Rattle.std.proofs.shelf.Ways.{tells, decides-or, decides-and, decides-eqb, same-from-decides}
+use Rattle.std.proofs.shelf.Ways.{tells}
 use Rattle.board.specs.declared.side.Side.{Side}
 use Rattle.board.specs.declared.side.Side.the-variants.{White, Black}
-use Rattle.board.specs.declared.piece.Kind.{Kind}
-use Rattle.board.specs.declared.piece.Kind.the-variants.{Pawn, Knight, King}
-use Rattle.board.specs.Geometry.{direction, beyond, knight-step, king-step}
-use Rattle.board.specs.Piece.{code, holds}
-use Rattle.board.specs.Attack.{pawn-attack, slides, attacks-along, attacks}
-use Rattle.board.proofs.BelowLaws.{decides-some, decides-itself, not-passed, same-tests}
-use Rattle.board.proofs.AttackLaws.{Along, Lined, Stepped, Stepping, decides-along, decides-reached, slides-zero}
+use Rattle.board.specs.Geometry.{direction, beyond}
+use Rattle.board.specs.Attack.{slides}
+use Rattle.board.proofs.BelowLaws.{not-passed, same-tests}
+use Rattle.board.proofs.AttackLaws.{slides-zero}
 use Rattle.board.specs.Hits.{line-hit}
 use Rattle.board.proofs.HitLaws.{decides-line}
 use Rattle.mailbox.specs.Cells.{cell-of, square-of, codes-of, steps, Bordered}

@@ -8,10 +8,7 @@ use lib.ListN.{getD, length}
 use Rattle.std.specs.Iters.{counting}
 use Rattle.board.specs.declared.side.Side.{Side}
 use Rattle.board.specs.declared.side.Side.the-variants.{White, Black}
-use Rattle.board.specs.declared.piece.Kind.{Kind}
 use Rattle.board.specs.Below.{some-below}
-use Rattle.board.specs.Piece.{holds}
-use Rattle.board.specs.Attack.{attacks-along}
 
 -- the cell of a square
 unfoldable pub cell-of : ℕ → ℕ

@@ -1,16 +1,15 @@
 -- The laws of a position, one by one.
-use mathlib.Core.Path.{_≡_, refl, sym, ap, subst, _∙_}
-use mathlib.Core.Bool.{Bool, true, false, cond, not, _&&_, _||_}
+use mathlib.Core.Path.{_≡_, refl, ap, _∙_}
+use mathlib.Core.Bool.{Bool, true, false, cond}
 use mathlib.Core.List.{List, [], _∷_, _++_}
 use mathlib.Core.Logic.{_⊎_, inl, inr, ⊎-elim}
 use Prim.Native.Nat.{ℕ, _+_, _<_, _≤_}
 use native.Mathlib.Omega.{arith}
 use lib.Dec.{eqb, leb}
 use lib.ListN.{length, getD, take}
-use Rattle.std.specs.declared.option.Option.{Option}
-use Rattle.std.specs.declared.option.Option.the-variants.{Some, None}
+use Rattle.std.specs.declared.option.Option.the-variants.{None}
 use Rattle.std.proofs.shelf.Lists.{take-more, getD-past}
-use Rattle.std.proofs.shelf.Tests.{and-parts, and-from, and-right, cases-lt, eqb-true, eq-eqb, leb-true, le-leb, both-ways}
+use Rattle.std.proofs.shelf.Tests.{and-parts, and-from, cases-lt, eqb-true, eq-eqb, leb-true, le-leb, both-ways}
 use Rattle.board.specs.Below.{all-below}
 use Rattle.board.specs.Meaning.{Shown}
 use Rattle.board.proofs.BelowLaws.{all-at, all-from}

@@ -9,9 +9,9 @@ use Rattle.std.specs.Iters.{counting}
 use Rattle.std.specs.declared.option.Option.{Option}
 use Rattle.board.specs.declared.side.Side.{Side}
 use Rattle.board.specs.declared.side.Side.the-variants.{White, Black}
-use Rattle.board.specs.declared.piece.Kind.the-variants.{Pawn, King}
+use Rattle.board.specs.declared.piece.Kind.the-variants.{King}
 use Rattle.board.specs.Below.{some-below, _and-then_}
-use Rattle.board.specs.Geometry.{file, rank}
+use Rattle.board.specs.Geometry.{rank}
 use Rattle.board.specs.Piece.{other, holds}
 use Rattle.board.specs.Attack.{pawn-attack, attacks-from, attacks, in-check}
 use Rattle.rules.specs.declared.rights.Castling.{Castling}

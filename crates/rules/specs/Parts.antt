@@ -1,11 +1,11 @@
 -- The parts of a position, as plain values.
 use Prim.Native.Nat.{ℕ}
-use mathlib.Core.Bool.{Bool, true, false}
+use mathlib.Core.Bool.{true}
 use mathlib.Core.List.{List, [], _∷_}
 use Rattle.std.specs.declared.option.Option.{Option}
-use Rattle.std.specs.declared.option.Option.the-variants.{Some, None}
+use Rattle.std.specs.declared.option.Option.the-variants.{None}
 use Rattle.board.specs.declared.side.Side.{Side}
-use Rattle.board.specs.declared.side.Side.the-variants.{White, Black}
+use Rattle.board.specs.declared.side.Side.the-variants.{White}
 use Rattle.rules.specs.declared.rights.Castling.{Castling}
 use Rattle.rules.specs.declared.rights.Rights.{Rights}
 

@@ -1,9 +1,8 @@
-use mathlib.Core.Path.{_≡_, sym, ap, subst, _∙_}
-use Prim.Native.Nat.{_+_, _≤_}
+use mathlib.Core.Path.{_≡_, ap, _∙_}
 use native.Mathlib.Omega.{arith}
 use lib.ListN.{length}
 use Rattle.std.specs.Of.Vec.{vec-items}
-use Rattle.drawing.proofs.Lines.{Goes-on, goes-start, goes-byte, goes-line, ends-line, ends-none}
+use Rattle.drawing.proofs.Lines.{goes-start, goes-byte, goes-line, ends-line, ends-none}
 use Rattle.drawing.proofs.draw_input.Needs as need
 use Rattle.drawing.proofs.draw_input.Needs.{then-byte-eq10·in-Continue-draw-line, else-byte-eq10, then-start-input·in-Continue-draw-line-2, else-start-input}
 

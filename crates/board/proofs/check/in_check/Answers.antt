@@ -1,17 +1,13 @@
-use mathlib.Core.Path.{_≡_, refl, sym, ap, _∙_}
-use mathlib.Core.Bool.{Bool, true, false}
-use mathlib.Core.List.{List}
+use mathlib.Core.Path.{_≡_, sym, ap, _∙_}
+use mathlib.Core.Bool.{true, false}
 use mathlib.Core.Logic.{⊎-elim}
-use Prim.Native.Nat.{ℕ, _+_, _<_, _≤_}
+use Prim.Native.Nat.{_<_, _≤_}
 use native.Mathlib.Omega.{arith}
-use lib.ListN.{getD}
 use borrow.Author.Needs.{needs}
 use Rattle.std.proofs.shelf.Tests.{cases-lt, cases-eq}
 use Rattle.std.proofs.shelf.Ways.{decides-at}
-use Rattle.board.specs.declared.side.Side.{Side}
-use Rattle.board.specs.declared.piece.Kind.the-variants.{King}
-use Rattle.board.specs.Piece.{code, other}
-use Rattle.board.specs.Attack.{attacks, in-check}
+use Rattle.board.specs.Piece.{other}
+use Rattle.board.specs.Attack.{attacks}
 use Rattle.board.proofs.AttackLaws.{check-found, check-missed}
 use Rattle.board.proofs.NextLaws.{next-some, next-none}
 use Rattle.board.proofs.RuleLaws.{check-rule}

@@ -1,5 +1,5 @@
 use mathlib.Core.Path.{_≡_}
-use mathlib.Core.List.{_++_, _∷_}
+use mathlib.Core.List.{_++_}
 use Prim.Native.Nat.{_+_}
 use Rattle.std.specs.Of.Vec.{vec-items}
 use Rattle.drawing.specs.Drawing.{squares-drawn}

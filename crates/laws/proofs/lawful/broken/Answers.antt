@@ -1,5 +1,4 @@
-use mathlib.Core.Path.{_≡_, refl, sym, ap, _∙_}
-use mathlib.Core.Bool.{Bool, true, false}
+use mathlib.Core.Path.{refl, sym, ap, _∙_}
 use Rattle.board.specs.Attack.{in-check}
 use Rattle.board.specs.Piece.{other}
 use Rattle.rules.specs.Lawful.{broken}

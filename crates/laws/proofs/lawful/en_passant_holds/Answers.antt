@@ -1,5 +1,3 @@
-use mathlib.Core.Path.{_≡_, refl, sym, ap, _∙_}
-use borrow.Author.Needs.{needs}
 use Rattle.rules.specs.Lawful.{en-passant-stands}
 use Rattle.laws.proofs.lawful.en_passant_holds.Needs as need
 

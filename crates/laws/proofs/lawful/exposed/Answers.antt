@@ -1,6 +1,4 @@
-use mathlib.Core.Path.{_≡_, sym, ap, subst, _∙_}
-use Prim.Native.Nat.{ℕ, _≤_}
-use mathlib.Core.List.{List}
+use mathlib.Core.Path.{sym, ap, subst, _∙_}
 use Rattle.board.specs.Attack.{in-check}
 use Rattle.board.specs.Meaning.{Shown}
 use Rattle.rules.proofs.LawfulLaws.{board-shown}

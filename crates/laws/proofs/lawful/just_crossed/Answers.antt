@@ -1,4 +1,3 @@
-use mathlib.Core.Path.{_≡_, refl, sym, ap, _∙_}
 use Rattle.rules.specs.Lawful.{en-passant-stands}
 use Rattle.laws.proofs.lawful.just_crossed.Needs as need
 

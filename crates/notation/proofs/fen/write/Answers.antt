@@ -1,8 +1,7 @@
-use mathlib.Core.Path.{ap, subst, _∙_}
+use mathlib.Core.Path.{subst, _∙_}
 use Prim.Native.Nat.{_≤_}
 use lib.ListN.{length}
 use Rattle.laws.specs.Position.{position-parts}
-use Rattle.laws.specs.Setup.{parts}
 use Rattle.notation.specs.Fen.{fen}
 use Rattle.notation.proofs.WriteLaws.{position-back, written-short, written-whole}
 use Rattle.notation.proofs.fen.write.Needs as need

@@ -1,4 +1,4 @@
-use mathlib.Core.Path.{_≡_, sym, _∙_}
+use mathlib.Core.Path.{sym}
 use Rattle.rules.proofs.LawfulLaws.{lawful-from}
 use Rattle.laws.proofs.position.Position.new.Needs as need
 
