@@ -1,14 +1,14 @@
 //! Examples for every make of board.
 #[cfg(test)]
 mod tests {
+    use bitboard::Bitboard;
+    use bitboard::BitboardBoard;
     use board::Board;
     use board::check::in_check;
     use board::check::would_attack;
     use board::picture::picture;
     use board::picture::show;
     use board::side::Side;
-    use bitboard::Bitboard;
-    use bitboard::BitboardBoard;
     use mailbox::Mailbox;
     use mailbox::MailboxBoard;
     use std::test::*;

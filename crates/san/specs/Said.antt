@@ -1,6 +1,6 @@
 -- What a move text says, which moves it matches, and what is said of a move.
 use Prim.Native.Nat.{ℕ, _-_}
-use mathlib.Core.Bool.{Bool, true, false, cond, not, _&&_, _||_}
+use mathlib.Core.Bool.{Bool, true, false, cond, not, _&&_}
 use mathlib.Core.List.{List, [], _∷_}
 use lib.Dec.{eqb, leb, ltb}
 use Rattle.std.specs.declared.option.Option.{Option}
@@ -87,10 +87,12 @@ pub data Mark : Type 0 where
 unfoldable pub piece-mark : Parts → Move → Mark
 piece-mark p m =
     elim (rival p m) [
-      false ↦ unmarked
-    | true ↦ elim (rival-on-file p m) [
-        false ↦ by-file
-      | true ↦ elim (rival-on-rank p m) [ false ↦ by-rank | true ↦ by-both ] ] ]
+      | false ↦ unmarked
+      | true ↦ elim (rival-on-file p m) [
+        | false ↦ by-file
+        | true ↦ elim (rival-on-rank p m) [ false ↦ by-rank | true ↦ by-both ]
+      ]
+    ]
 
 -- a pawn's is its file, only when it captures
 unfoldable pub origin-mark : Parts → Move → Mark
@@ -112,5 +114,6 @@ marked-rank by-both r = Some r
 unfoldable pub said : Parts → Move → Said
 said p m =
     elim (is-castling p m) [
-      true ↦ castling (is-queenside m)
-    | false ↦ going (kind p m) (marked-file (origin-mark p m) (file (m .from))) (marked-rank (origin-mark p m) (rank (m .from))) (m .to) (m .promotion) ]
+      | true ↦ castling (is-queenside m)
+      | false ↦ going (kind p m) (marked-file (origin-mark p m) (file (m .from))) (marked-rank (origin-mark p m) (rank (m .from))) (m .to) (m .promotion)
+    ]

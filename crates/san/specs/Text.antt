@@ -1,7 +1,7 @@
 -- A move text read. It is read from its end, where each byte tells by itself which part it belongs to.
 use Prim.Native.Nat.{ℕ, _+_, _-_, _*_, _≤_, _<_}
 use mathlib.Core.Path.{_≡_}
-use mathlib.Core.Bool.{Bool, true, false, cond, not, _&&_, _||_}
+use mathlib.Core.Bool.{Bool, true, false, cond, _&&_, _||_}
 use mathlib.Core.List.{List, [], _∷_, _++_, reverse}
 use mathlib.Core.Logic.{_⊎_}
 use lib.Chars.{codes as bytes}
@@ -10,7 +10,7 @@ use Rattle.std.specs.Options.{orOther, Cases}
 use Rattle.std.specs.declared.option.Option.{Option}
 use Rattle.std.specs.declared.option.Option.the-variants.{Some, None}
 use Rattle.std.specs.declared.result.Result.{Result}
-use Rattle.std.specs.declared.result.Result.the-variants.{Ok, Err}
+use Rattle.std.specs.declared.result.Result.the-variants.{Err}
 use Rattle.faults.specs.declared.LawsFault.{LawsFault}
 use Rattle.faults.specs.declared.LawsFault.the-variants.{InNotation}
 use Rattle.faults.specs.declared.NotationFault.the-variants.{NotMoveText}

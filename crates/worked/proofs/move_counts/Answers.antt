@@ -11,5 +11,5 @@ returns c = record {
   in-check-with-promotions-near = refl;
   the-same-mirrored = refl;
   a-pawn-about-to-promote = refl;
-  a-quiet-middle-game = refl
+  a-quiet-middle-game = refl;
 }

@@ -17,5 +17,5 @@ returns c = record {
   marked-by-both = refl;
   en-passant-that-exposes-the-king = refl;
   castling-where-only-the-rook-is-passed = refl;
-  black-mates = refl
+  black-mates = refl;
 }

@@ -1,0 +1,6 @@
+pub mod Marks
+pub mod Alone
+pub mod Reading
+pub mod Spelling
+pub mod Listing
+pub mod Sans
