@@ -73,7 +73,7 @@ fn fen_line(out: &mut Vec<u8>, position: &Position) -> Result<(), AllocError>
 }
 
 /// A position, with the board left to show it.
-pub fn position<B: Board>(
+pub(crate) fn position<B: Board>(
     out: &mut Vec<u8>,
     board: &mut B,
     position: &Position,
@@ -98,7 +98,7 @@ fn number(out: &mut Vec<u8>, number: u64) -> Result<(), AllocError>
 }
 
 /// A fault, of a line that starts at a byte and has a number.
-pub fn fault(
+pub(crate) fn fault(
     out: &mut Vec<u8>,
     fault: SheetFault,
     byte: usize,

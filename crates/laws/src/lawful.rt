@@ -169,7 +169,7 @@ fn counters_hold(clock: u16, number: u16) -> bool
 }
 
 /// The first law that the parts break. The board, which is asked for attacks, is left as it was.
-pub fn broken<B: Board>(board: &mut B, setup: &Setup) -> Option<Breach>
+pub(crate) fn broken<B: Board>(board: &mut B, setup: &Setup) -> Option<Breach>
     ensures answer { λ r. ⌜ r ≡ first-broken-law (parts (now (setup .entry))) ⌝ }
     ensures list { λ _. ⌜ codes (now (board .exit)) ≡ codes (now (board .entry)) ⌝ }
 {

@@ -12,7 +12,7 @@ use rules::rights::Castling;
 use rules::rights::Rights;
 
 /// The place behind a byte that must stand at a place.
-pub fn past(text: &[u8], at: usize, byte: u8) -> Option<usize>
+pub(crate) fn past(text: &[u8], at: usize, byte: u8) -> Option<usize>
     ensures { λ r. ⌜ mapped (λ n. drop n (now (text .entry))) r ≡ behind-byte byte (drop at (now (text .entry))) ⌝ }
 {
     if at < text.len() && text[at] == byte {
@@ -34,7 +34,7 @@ fn side_field(text: &[u8], at: usize) -> Option<(Side, usize)>
 }
 
 /// The side to move.
-pub fn side(text: &[u8], at: usize) -> Option<(Side, usize)>
+pub(crate) fn side(text: &[u8], at: usize) -> Option<(Side, usize)>
     ensures { λ r. ⌜ rest-of (λ s. s) (now (text .entry)) r ≡ behind 32 (read-side (drop at (now (text .entry)))) ⌝ }
 {
     let (side, end) = side_field(text, at)?;
@@ -68,7 +68,7 @@ fn castling(text: &[u8], at: usize, king: u8, queen: u8) -> (Castling, usize)
 }
 
 /// Whether there is no castling right.
-pub fn none(rights: Rights) -> bool
+pub(crate) fn none(rights: Rights) -> bool
     ensures { λ r. ⌜ r ≡ no-right rights ⌝ }
 {
     !(rights.white.kingside
@@ -92,7 +92,7 @@ fn rights_field(text: &[u8], at: usize) -> Option<(Rights, usize)>
 }
 
 /// The castling rights.
-pub fn rights(text: &[u8], at: usize) -> Option<(Rights, usize)>
+pub(crate) fn rights(text: &[u8], at: usize) -> Option<(Rights, usize)>
     ensures { λ r. ⌜ rest-of (λ x. x) (now (text .entry)) r ≡ behind 32 (read-rights (drop at (now (text .entry)))) ⌝ }
 {
     let (rights, end) = rights_field(text, at)?;
@@ -138,7 +138,7 @@ fn en_passant_field(text: &[u8], at: usize) -> Option<(Option<Square>, usize)>
 }
 
 /// The en passant square.
-pub fn en_passant(text: &[u8], at: usize) -> Option<(Option<Square>, usize)>
+pub(crate) fn en_passant(text: &[u8], at: usize) -> Option<(Option<Square>, usize)>
     ensures { λ r. ⌜ rest-of (mapped square-number) (now (text .entry)) r ≡ behind 32 (read-en-passant (drop at (now (text .entry)))) ⌝ }
 {
     let (square, end) = en_passant_field(text, at)?;

@@ -125,7 +125,7 @@ fn decimal(line: &mut Line, number: u16)
 }
 
 /// The FEN of these parts.
-pub fn line(setup: &Setup) -> Line
+pub(crate) fn line(setup: &Setup) -> Line
     ensures { λ r. ⌜ line-text r ≡ fen-of (parts (now (setup .entry))) ⌝ }
 {
     let mut line = Line::new();

@@ -6,7 +6,7 @@ ghost use mathlib.Core.Path.{_≡_};
 
 /// What is written so far, in front of an array with room for every FEN.
 #[derive(Drop)]
-pub struct Line {
+pub(crate) struct Line {
     bytes: [u8; 124],
     len: usize,
     ghost within: { len ≤ 124 },
@@ -14,7 +14,7 @@ pub struct Line {
 
 impl Line {
     /// An empty line.
-    pub fn new() -> Line
+    pub(crate) fn new() -> Line
         ensures text { λ r. ⌜ take (r .len) (r .bytes) ≡ [] ⌝ }
         ensures size { λ r. ⌜ r .len ≡ 0 ⌝ }
     {
@@ -25,7 +25,7 @@ impl Line {
     }
 
     /// Writes a byte.
-    pub fn push(&mut self, byte: u8)
+    pub(crate) fn push(&mut self, byte: u8)
         requires { ⌜ now self .len < 124 ⌝ }
         ensures text { λ _. ⌜ take (now (self .exit) .len) (now (self .exit) .bytes) ≡ take (now (self .entry) .len) (now (self .entry) .bytes) ++ (byte ∷ []) ⌝ }
         ensures size { λ _. ⌜ now (self .exit) .len ≡ now (self .entry) .len + 1 ⌝ }
@@ -35,7 +35,7 @@ impl Line {
     }
 
     /// Writes a text.
-    pub fn append(&mut self, piece: &[u8])
+    pub(crate) fn append(&mut self, piece: &[u8])
         requires { ⌜ now self .len + length (now piece) ≤ 124 ⌝ }
         ensures text { λ _. ⌜ take (now (self .exit) .len) (now (self .exit) .bytes) ≡ take (now (self .entry) .len) (now (self .entry) .bytes) ++ now (piece .entry) ⌝ }
         ensures size { λ _. ⌜ now (self .exit) .len ≡ now (self .entry) .len + length (now (piece .entry)) ⌝ }
@@ -46,7 +46,7 @@ impl Line {
     }
 
     /// What is written.
-    pub fn text(&self) -> &[u8]
+    pub(crate) fn text(&self) -> &[u8]
         ensures value { λ r. ⌜ now r ≡ take (now (self .entry) .len) (now (self .entry) .bytes) ⌝ }
         ensures few { λ r. ⌜ length (now r) ≤ 124 ⌝ }
     {

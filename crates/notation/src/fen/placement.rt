@@ -46,14 +46,14 @@ fn rank(text: &[u8], from: usize) -> Option<([u8; 8], usize)>
 }
 
 /// The byte behind a rank with so many ranks to come.
-pub fn rank_end(left: usize) -> u8
+pub(crate) fn rank_end(left: usize) -> u8
     ensures { λ r. ⌜ r ≡ end-of-rank left ⌝ }
 {
     if left == 0 { b' ' } else { b'/' }
 }
 
 /// The 64 codes, and the place behind the placement and its space.
-pub fn placement(text: &[u8], from: usize) -> Option<([u8; 64], usize)>
+pub(crate) fn placement(text: &[u8], from: usize) -> Option<([u8; 64], usize)>
     ensures { λ r. ⌜ rest-of (λ codes. codes) (now (text .entry)) r ≡ read-ranks 8 [] (drop from (now (text .entry))) ⌝ }
 {
     let mut codes = [0; 64];
