@@ -75,7 +75,7 @@ pawn-told p m n law lm ln y ag =
     shared (goes-pawn p m y (lm .way) .1) wn
 
 -- castling to one side is one move
-home-far : (v : Side) → 4 ≤ king-home v
+pub home-far : (v : Side) → 4 ≤ king-home v
 home-far White = omega arith
 home-far Black = omega arith
 
@@ -88,7 +88,7 @@ one-castling p m n a b e (kingside x _) (queenside y _) =
 one-castling p m n a b e (queenside x _) (kingside y _) =
     let h = home-far (p .side) in absurd (both-ways _ (e ∙ le-ltb (n .to) (n .from) (omega arith)) (lt-ltb (m .to) (m .from) (omega arith)))
 
-castling-plain : (p : Parts) (m : Move) → Legal p m → is-castling p m ≡ true → m .promotion ≡ 0
+pub castling-plain : (p : Parts) (m : Move) → Legal p m → is-castling p m ≡ true → m .promotion ≡ 0
 castling-plain p m l e = elim (legal-promotion p m l) [
   | inl z ↦ z
   | inr (y, _, _) ↦ absurd (apart (p .side) (sym (eqb-true _ _ y) ∙ eqb-true _ _ (and-parts (holds (p .codes) (p .side) King (m .from)) (far (file (m .from)) (file (m .to))) e .0)))
@@ -98,7 +98,7 @@ castling-plain p m l e = elim (legal-promotion p m l) [
     apart White e = omega arith
     apart Black e = omega arith
 
-same-true : (a b : Bool) → same a b ≡ true → a ≡ b
+pub same-true : (a b : Bool) → same a b ≡ true → a ≡ b
 same-true true b h = sym h
 same-true false b h = sym (not-true _ h)
 

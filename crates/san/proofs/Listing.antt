@@ -26,10 +26,10 @@ dropped f x xs e = second-arm (f x) _ _ e
 
 module _ (f g : Move → Bool) where
   -- both tests, and not both
-  passed : (x : Move) (xs : List Move) → g x ≡ true → f x ≡ true → keep f (keep g (x ∷ xs)) ≡ x ∷ keep f (keep g xs)
+  pub passed : (x : Move) (xs : List Move) → g x ≡ true → f x ≡ true → keep f (keep g (x ∷ xs)) ≡ x ∷ keep f (keep g xs)
   passed x xs a b = ap (keep f) (kept g x xs a) ∙ kept f x (keep g xs) b
 
-  failed : (x : Move) (xs : List Move) → (g x ≡ true → f x ≡ true → ⊥) → keep f (keep g (x ∷ xs)) ≡ keep f (keep g xs)
+  pub failed : (x : Move) (xs : List Move) → (g x ≡ true → f x ≡ true → ⊥) → keep f (keep g (x ∷ xs)) ≡ keep f (keep g xs)
   failed x xs h = elim (cases-bool (g x)) [
     | inr a ↦ ap (keep f) (dropped g x xs a)
     | inl a ↦ elim (cases-bool (f x)) [
@@ -38,7 +38,7 @@ module _ (f g : Move → Bool) where
     ]
   ]
 
-  none-kept : (a n : ℕ) → ((j : ℕ) → a ≤ j → g (numbered-move j) ≡ true → f (numbered-move j) ≡ true → ⊥) → keep f (keep g (map numbered-move (counting a n))) ≡ []
+  pub none-kept : (a n : ℕ) → ((j : ℕ) → a ≤ j → g (numbered-move j) ≡ true → f (numbered-move j) ≡ true → ⊥) → keep f (keep g (map numbered-move (counting a n))) ≡ []
   unfolding keep
   none-kept a zero h = refl
   none-kept a (suc n) h = failed (numbered-move a) _ (h a (omega arith)) ∙ none-kept (a + 1) n (λ j l. h j (omega arith))
