@@ -21,6 +21,10 @@ promotion-number (Some Queen) = 5
 abbrev pub plain : Move → rules.Move
 plain m = record { from = m .from .number; to = m .to .number; promotion = promotion-number (m .promotion) }
 
+-- a number is that of some promotion, or of none: it is no pawn's
+abbrev pub is-promotion-number : ℕ → Bool
+is-promotion-number n = ltb n 6 && not (eqb n 1)
+
 -- a number is that of some move: its promotion is no pawn
 abbrev pub is-move-number : ℕ → Bool
 is-move-number n = ltb n move-numbers && not (eqb (n / 4096) 1)

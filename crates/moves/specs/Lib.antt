@@ -1,2 +1,3 @@
 pub mod Action
 pub mod Path
+pub mod Change

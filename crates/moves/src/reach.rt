@@ -1,6 +1,5 @@
 //! How far the piece on a square reaches.
-ghost use Prim.Native.Nat.{ℕ, _<_, _≤_};
-ghost use lib.ListN.{getD};
+ghost use Prim.Native.Nat.{_<_, _≤_};
 ghost use mathlib.Core.Path.{_≡_};
 ghost use Rattle.std.specs.Orderings.{Decides};
 ghost use Rattle.board.specs.Attack.{attacks-from, pawn-attack};
@@ -21,7 +20,7 @@ fn near(a: usize, b: usize) -> bool
     up | down
 }
 
-fn far(a: usize, b: usize) -> bool
+pub fn far(a: usize, b: usize) -> bool
     requires { ⌜ a < 64 ⌝ ∗ ⌜ b < 64 ⌝ }
     ensures { λ r. ⌜ r ≡ two-apart a b ⌝ }
 {
@@ -30,7 +29,7 @@ fn far(a: usize, b: usize) -> bool
     up | down
 }
 
-fn pawn_reaches(side: Side, from: usize, to: usize) -> bool
+pub fn pawn_reaches(side: Side, from: usize, to: usize) -> bool
     requires { ⌜ from < 64 ⌝ ∗ ⌜ to < 64 ⌝ }
     ensures { λ r. ⌜ r ≡ pawn-attack side from to ⌝ }
 {

@@ -1,5 +1,5 @@
 use mathlib.Core.Path.{refl}
-use mathlib.Core.Bool.{true, false}
+use mathlib.Core.Bool.{false}
 use Prim.Native.Nat.{_+_}
 use Rattle.std.proofs.shelf.Tests.{both-ways}
 use Rattle.moves.proofs.PathLaws.{walk-on, walk-emptied, walk-stopped, walk-ended}

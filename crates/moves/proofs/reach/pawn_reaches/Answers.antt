@@ -1,4 +1,3 @@
-use mathlib.Core.Path.{_≡_, refl, sym, ap, _∙_}
 use Rattle.board.specs.Attack.{pawn-attack}
 use Rattle.moves.proofs.reach.pawn_reaches.Needs as need
 

@@ -1,4 +1,4 @@
-use mathlib.Core.Path.{_≡_, sym, _∙_}
+use mathlib.Core.Path.{sym, _∙_}
 use Rattle.std.proofs.shelf.Ways.{not-from-decides}
 use Rattle.board.proofs.AttackLaws.{pawn-attacks, knight-attacks, king-attacks, line-attacks}
 use Rattle.moves.proofs.ReachLaws.{lines-open, lines-shut}

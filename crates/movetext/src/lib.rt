@@ -1,0 +1,3 @@
+//! Move text, read.
+pub mod read;
+pub mod text;
