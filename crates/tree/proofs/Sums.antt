@@ -4,6 +4,7 @@ use mathlib.Core.Bool.{Bool, true, false, cond}
 use mathlib.Core.List.{List, [], _∷_, map}
 use mathlib.Core.Logic.{inl, inr}
 use Prim.Native.Nat.{ℕ, zero, suc, _+_, _-_, _<_, _≤_, min}
+use native.Mathlib.Numerals.{one-add}
 use native.Mathlib.Omega.{arith}
 use lib.ListN.{length, getD, take}
 use Rattle.std.specs.shelf.Lists.{sumBy}
@@ -96,3 +97,12 @@ module _ (p : Parts) (n most : ℕ) (ms : List Move) (listed : map plain ms ≡ 
   not-missing e =
       let q : _≡_ {A = Option Parts} None (Some (after p (plain m))) = e ∙ cond-true _ _ _ stands in
       let z : _≡_ {A = ℕ} 0 1 = cc in omega arith
+
+-- at the last move each leaf is a legal move
+sum-ones : (p : Parts) (ms : List Move) → sumBy (leaves-by p 0) ms ≡ length ms
+unfolding leaf-count
+sum-ones p [] = refl
+sum-ones p (m ∷ ms) = sumBy-cons (leaves-by p 0) m ms ∙ ap (λ (n : ℕ). 1 + n) (sum-ones p ms) ∙ one-add (length ms)
+
+pub last-leaves : (p : Parts) (d : ℕ) (ms : List Move) → d ≡ 1 → map plain ms ≡ legal-moves p → leaf-count p d ≡ length ms
+last-leaves p d ms e listed = leaves-sum p 0 d ms listed (omega arith) ∙ sum-ones p ms

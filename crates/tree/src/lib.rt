@@ -20,6 +20,9 @@ pub fn leaves<B: Board>(heap: Global, board: &mut B, position: &Position, depth:
         return Ok(1);
     }
     let moves = legal_moves(heap, board, position)?;
+    if depth == 1 {
+        return Ok(moves.len() as u64);
+    }
     let mut total = 0u64;
     for m in moves.as_slice() {
         if let Some(next) = after(board, position, *m) {

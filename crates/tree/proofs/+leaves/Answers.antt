@@ -6,6 +6,7 @@ use lib.ListN.{length, getD, take}
 use Rattle.std.specs.Options.{mapped}
 use Rattle.std.specs.declared.option.Option.{Option}
 use Rattle.std.specs.declared.option.Option.the-variants.{Some, None}
+use Rattle.std.specs.Of.Vec.{vec-items}
 use Rattle.std.specs.shelf.Lists.{sumBy}
 use Rattle.std.proofs.shelf.Lists.{take-all}
 use Rattle.std.proofs.shelf.Sums.{sumBy-more}
@@ -17,13 +18,23 @@ use mathlib.Core.List.{map}
 use Rattle.laws.specs.Position.{position-parts}
 use Rattle.moves.specs.Action.{plain}
 use Rattle.tree.specs.Leaves.{leaf-count}
-use Rattle.tree.proofs.Sums.{leaves-by, leaves-sum, counted, not-missing, first-leaf}
+use Rattle.tree.proofs.Sums.{leaves-by, leaves-sum, counted, not-missing, first-leaf, last-leaves}
 use Rattle.tree.proofs.+leaves.Needs as need
 use Rattle.tree.proofs.+leaves.Needs.{in-Some·in-Continue-leaves, in-rest}
 
 pub returns-then-depth-eq0 : need.returns-then-depth-eq0
 returns-then-depth-eq0 g t c =
     let e = first-leaf (position-parts (c .args .position .now)) (c .args .depth) (c .if-depth-eq0 .taken) in omega arith
+
+pub returns-then-depth-eq1 : need.returns-then-depth-eq1
+returns-then-depth-eq1 g t c =
+    let p = position-parts (c .args .position .now) in
+    let v = c .in-Continue-moves .moves in
+    let e = last-leaves p (c .args .depth) (vec-items v) (c .if-depth-eq1 .taken) (c .in-Continue-moves .ensures tt .answer) in
+    let long = v .ok .0 in
+    let few = c .len .ok in
+    let is = c .len .ensures in
+    omega arith
 
 pub loop-m-holds : need.loop-m-holds
 loop-m-holds g t c = refl
