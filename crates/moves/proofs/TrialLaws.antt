@@ -3,25 +3,27 @@ use mathlib.Core.Path.{_≡_, refl, sym, ap, _∙_}
 use mathlib.Core.Bool.{Bool, true, false, cond, not, _&&_}
 use mathlib.Core.List.{List, [], _∷_, _++_, map}
 use mathlib.Core.Logic.{⊎-elim}
-use Prim.Native.Nat.{ℕ, _+_, _/_, _<_, _≤_}
+use Prim.Native.Nat.{ℕ, _+_, _/_, _%_, _<_, _≤_}
 use native.Mathlib.Omega.{arith}
-use lib.Dec.{eqb, ltb}
+use lib.Dec.{eqb, leb, ltb}
 use lib.ListN.{getD}
 use Rattle.std.specs.Iters.{counting}
 use Rattle.std.specs.declared.option.Option.{Option}
 use Rattle.std.specs.declared.option.Option.the-variants.{Some, None}
 use Rattle.std.proofs.shelf.Counted.{map-counting-more}
 use Rattle.std.proofs.shelf.Lists.{map-append}
-use Rattle.std.proofs.shelf.Tests.{eqb-true, lt-ltb, ne-eqb, and-from, cases-eq, cond-true, cond-false}
+use Rattle.std.proofs.shelf.Tests.{eqb-true, lt-ltb, ne-eqb, and-from, both-ways, cases-eq, cond-true, cond-false}
+use Rattle.board.specs.declared.piece.Kind.the-variants.{Pawn}
+use Rattle.board.specs.Piece.{code}
 use Rattle.board.specs.Attack.{in-check}
 use Rattle.board.proofs.BelowLaws.{not-passed, some-from, some-none}
 use Rattle.rules.specs.Parts.{Parts}
 use Rattle.rules.specs.Lawful.{lawful}
 use Rattle.rules.specs.Move.{Move, mover, numbered-move, is-pawn-move}
 use Rattle.rules.specs.After.{codes-after}
-use Rattle.rules.specs.Legal.{of-side, goes, legal, keep, legal-moves, move-numbers, can-move, checkmate, stalemate}
+use Rattle.rules.specs.Legal.{of-side, last-rank, promotes, goes, legal, keep, legal-moves, move-numbers, can-move, checkmate, stalemate}
 use Rattle.rules.proofs.LawfulParts.{lawful-parts}
-use Rattle.rules.proofs.LegalLaws.{legal-parts, legal-promotion}
+use Rattle.rules.proofs.LegalLaws.{legal-parts, legal-promotion, goes-pawn}
 use Rattle.moves.specs.Action.{is-move-number}
 use Rattle.moves.proofs.BoolLaws.{then-on, then-off}
 
@@ -64,6 +66,32 @@ none-numbered p n h e = ⊎-elim
     let s : _≡_ {A = Option Move} None (Some (numbered-move n)) = e ∙ cond-true _ (Some (numbered-move n)) None t in
     cc)
     (cases-eq (n / 4096) 1)
+
+-- moves that are worth no trial
+module _ (p : Parts) (n x : ℕ) (ex : x ≡ getD (p .codes) (n % 64) 0) where
+  pub not-own : of-side (p .side) x ≡ false → legal p (numbered-move n) ≡ false
+  not-own e = not-passed _ (λ l.
+      both-ways (of-side (p .side) x) e (ap (of-side (p .side)) ex ∙ legal-parts p (numbered-move n) l .own))
+
+  promoting : 4096 ≤ n → legal p (numbered-move n) ≡ true → (is-pawn-move p (numbered-move n) ≡ true) × (promotes (p .side) (numbered-move n) ≡ true)
+  promoting h l =
+      let q = legal-parts p (numbered-move n) l in
+      ⊎-elim
+      (λ (z : n / 4096 ≡ 0). absurd (omega arith))
+      (λ (z : (is-pawn-move p (numbered-move n) ≡ true) × (2 ≤ n / 4096) × (n / 4096 ≤ 5)). (z .0, goes-pawn p (numbered-move n) (z .0) (q .way) .0))
+      (legal-promotion p (numbered-move n) q)
+
+  pub not-pawn : 4096 ≤ n → (x ≡ code (p .side) Pawn → ⊥) → legal p (numbered-move n) ≡ false
+  not-pawn h no′ = not-passed _ (λ l. no′ (ex ∙ eqb-true _ _ (promoting h l .0)))
+
+  pub not-last : 4096 ≤ n → (n / 64 % 64 / 8 ≡ last-rank (p .side) → ⊥) → legal p (numbered-move n) ≡ false
+  not-last h no′ = not-passed _ (λ l.
+      let r = sym (cond-false _ (leb 2 (n / 4096) && leb (n / 4096) 5) (eqb (n / 4096) 0) (ne-eqb _ _ no′)) ∙ promoting h l .1 in
+      let z = eqb-true (n / 4096) 0 r in omega arith)
+
+pub none-tried : (p : Parts) (n : ℕ) → legal p (numbered-move n) ≡ false
+    → _≡_ {A = Option Move} None (cond (legal p (numbered-move n)) (Some (numbered-move n)) None)
+none-tried p n e = sym (cond-false _ (Some (numbered-move n)) None e)
 
 -- a pawn does not stand on the last rank
 pub pawn-inside : (p : Parts) (m : Move) → lawful p ≡ true → is-pawn-move p m ≡ true → m .from < 56

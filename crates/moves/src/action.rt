@@ -26,7 +26,7 @@ pub struct Move {
 }
 
 /// The number of the kind that a pawn becomes, 0 for none.
-pub fn promoted(promotion: Option<Promotion>) -> u8
+pub(crate) fn promoted(promotion: Option<Promotion>) -> u8
     ensures number { λ r. ⌜ r ≡ promotion-number promotion ⌝ }
     ensures most { λ r. ⌜ r ≤ 5 ⌝ }
 {

@@ -63,7 +63,7 @@ fn rights_to_move(setup: &Setup) -> Castling
 }
 
 // Whether a move castles, on a board that shows the position.
-pub fn castles<B: Board>(board: &B, setup: &Setup, m: Move) -> bool
+pub(crate) fn castles<B: Board>(board: &B, setup: &Setup, m: Move) -> bool
     requires { ⌜ B·Board .codes (now board) ≡ now setup .codes ⌝ }
     ensures { λ r. ⌜ r ≡ castling (parts (now (setup .entry))) (plain m) ⌝ }
 {

@@ -18,7 +18,7 @@ use board::side::Side;
 use laws::square::Square;
 
 // Whether a pawn goes one square ahead, or two from its first rank, over empty squares.
-pub fn advances(codes: &[u8; 64], side: Side, from: usize, to: usize) -> bool
+pub(crate) fn advances(codes: &[u8; 64], side: Side, from: usize, to: usize) -> bool
     requires { ⌜ from < 64 ⌝ ∗ ⌜ to < 64 ⌝ }
     ensures { λ r. ⌜ r ≡ pawn-advance (now (codes .entry)) side from to ⌝ }
 {
@@ -31,7 +31,7 @@ pub fn advances(codes: &[u8; 64], side: Side, from: usize, to: usize) -> bool
 }
 
 // Whether a pawn captures diagonally ahead: an enemy's piece, or a pawn en passant.
-pub fn captures(
+pub(crate) fn captures(
     codes: &[u8; 64],
     side: Side,
     en_passant: Option<Square>,
@@ -48,7 +48,7 @@ pub fn captures(
 }
 
 // Whether a pawn's move promotes exactly on the last rank.
-pub fn promotes(side: Side, m: Move) -> bool
+pub(crate) fn promotes(side: Side, m: Move) -> bool
     ensures { λ r. ⌜ r ≡ promoting side (plain m) ⌝ }
 {
     let number = promoted(m.promotion);

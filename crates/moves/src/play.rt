@@ -78,7 +78,7 @@ fn rook_goes(codes: &mut [u8; 64], side: Side, from: usize, to: usize)
 }
 
 // The codes after a move: a castling move moves the rook too, and one en passant takes the pawn beside its target.
-pub fn codes_after(setup: &Setup, m: Move) -> [u8; 64]
+pub(crate) fn codes_after(setup: &Setup, m: Move) -> [u8; 64]
     ensures { λ r. ⌜ r ≡ codes-next (parts (now (setup .entry))) (plain m) ⌝ }
 {
     let from = m.from.number() as usize;
@@ -168,7 +168,7 @@ fn next_number(side: Side, number: u16) -> u16
 }
 
 // The parts of the position after a move.
-pub fn setup_after(setup: &Setup, m: Move) -> Setup
+pub(crate) fn setup_after(setup: &Setup, m: Move) -> Setup
     requires { ⌜ (is-pawn-move (parts (now setup)) (plain m) ≡ true → plain m .from < 56) ⌝ }
     ensures { λ r. ⌜ parts r ≡ next (parts (now (setup .entry))) (plain m) ⌝ }
 {

@@ -20,7 +20,7 @@ fn near(a: usize, b: usize) -> bool
     up | down
 }
 
-pub fn far(a: usize, b: usize) -> bool
+pub(crate) fn far(a: usize, b: usize) -> bool
     requires { ⌜ a < 64 ⌝ ∗ ⌜ b < 64 ⌝ }
     ensures { λ r. ⌜ r ≡ two-apart a b ⌝ }
 {
@@ -29,7 +29,7 @@ pub fn far(a: usize, b: usize) -> bool
     up | down
 }
 
-pub fn pawn_reaches(side: Side, from: usize, to: usize) -> bool
+pub(crate) fn pawn_reaches(side: Side, from: usize, to: usize) -> bool
     requires { ⌜ from < 64 ⌝ ∗ ⌜ to < 64 ⌝ }
     ensures { λ r. ⌜ r ≡ pawn-attack side from to ⌝ }
 {
@@ -114,7 +114,7 @@ fn slides_to(found: u8, side: Side, from: usize, to: usize) -> bool
 }
 
 // Whether the piece on a square is the side's and attacks another.
-pub fn reaches(codes: &[u8; 64], side: Side, from: usize, to: usize) -> bool
+pub(crate) fn reaches(codes: &[u8; 64], side: Side, from: usize, to: usize) -> bool
     requires { ⌜ from < 64 ⌝ ∗ ⌜ to < 64 ⌝ }
     ensures { λ r. ⌜ r ≡ attacks-from side (now (codes .entry)) from to ⌝ }
 {

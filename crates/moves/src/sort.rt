@@ -11,14 +11,14 @@ use board::piece::Kind;
 use board::piece::code;
 use laws::setup::Setup;
 
-pub fn moves_pawn(setup: &Setup, m: Move) -> bool
+pub(crate) fn moves_pawn(setup: &Setup, m: Move) -> bool
     ensures { λ r. ⌜ r ≡ is-pawn-move (parts (now (setup .entry))) (plain m) ⌝ }
 {
     code_on(&setup.codes, m.from.number() as usize) == code(setup.side, Kind::Pawn)
 }
 
 // Castling is the king's move by two files.
-pub fn moves_rook_too(setup: &Setup, m: Move) -> bool
+pub(crate) fn moves_rook_too(setup: &Setup, m: Move) -> bool
     ensures { λ r. ⌜ r ≡ is-castling (parts (now (setup .entry))) (plain m) ⌝ }
 {
     let from = m.from.number() as usize;
@@ -29,7 +29,7 @@ pub fn moves_rook_too(setup: &Setup, m: Move) -> bool
 }
 
 // A pawn's move by two ranks.
-pub fn steps_twice(setup: &Setup, m: Move) -> bool
+pub(crate) fn steps_twice(setup: &Setup, m: Move) -> bool
     ensures { λ r. ⌜ r ≡ is-double-step (parts (now (setup .entry))) (plain m) ⌝ }
 {
     let from = m.from.number() as usize;
@@ -39,7 +39,7 @@ pub fn steps_twice(setup: &Setup, m: Move) -> bool
     pawn & apart
 }
 
-pub fn takes_crossing(setup: &Setup, m: Move) -> bool
+pub(crate) fn takes_crossing(setup: &Setup, m: Move) -> bool
     ensures { λ r. ⌜ r ≡ takes-en-passant (parts (now (setup .entry))) (plain m) ⌝ }
 {
     let from = m.from.number() as usize;
@@ -49,7 +49,7 @@ pub fn takes_crossing(setup: &Setup, m: Move) -> bool
     pawn & crossed & !(from % 8 == to % 8)
 }
 
-pub fn takes(setup: &Setup, m: Move) -> bool
+pub(crate) fn takes(setup: &Setup, m: Move) -> bool
     ensures { λ r. ⌜ r ≡ is-capture (parts (now (setup .entry))) (plain m) ⌝ }
 {
     let empty = code_on(&setup.codes, m.to.number() as usize) == 0;

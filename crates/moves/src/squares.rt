@@ -11,7 +11,7 @@ use board::side::Side;
 use laws::square::Square;
 
 // Whether a code is a piece of the side.
-pub fn is_own(side: Side, code: u8) -> bool
+pub(crate) fn is_own(side: Side, code: u8) -> bool
     ensures { λ r. ⌜ r ≡ of-side side code ⌝ }
 {
     match side {
@@ -21,14 +21,14 @@ pub fn is_own(side: Side, code: u8) -> bool
 }
 
 // The code on a square, 0 off the board.
-pub fn code_on(codes: &[u8; 64], square: usize) -> u8
+pub(crate) fn code_on(codes: &[u8; 64], square: usize) -> u8
     ensures { λ r. ⌜ r ≡ getD (now (codes .entry)) square 0 ⌝ }
 {
     if square < 64 { codes[square] } else { 0 }
 }
 
 // Writes a code on a square; off the board nothing is written.
-pub fn write(codes: &mut [u8; 64], square: usize, code: u8)
+pub(crate) fn write(codes: &mut [u8; 64], square: usize, code: u8)
     ensures { λ _. ⌜ now (codes .exit) ≡ set (now (codes .entry)) square code ⌝ }
 {
     if square < 64 {
@@ -37,7 +37,7 @@ pub fn write(codes: &mut [u8; 64], square: usize, code: u8)
 }
 
 // The square one rank ahead of a side's man.
-pub fn one_ahead(side: Side, square: usize) -> usize
+pub(crate) fn one_ahead(side: Side, square: usize) -> usize
     requires { ⌜ square ≤ 127 ⌝ }
     ensures square { λ r. ⌜ r ≡ ahead side square ⌝ }
     ensures most { λ r. ⌜ r ≤ square + 8 ⌝ }
@@ -49,7 +49,7 @@ pub fn one_ahead(side: Side, square: usize) -> usize
 }
 
 // The ranks, counted from 0, on which a side's pawns start and promote.
-pub fn first_rank(side: Side) -> usize
+pub(crate) fn first_rank(side: Side) -> usize
     ensures { λ r. ⌜ r ≡ pawn-home side ⌝ }
 {
     match side {
@@ -58,7 +58,7 @@ pub fn first_rank(side: Side) -> usize
     }
 }
 
-pub fn end_rank(side: Side) -> usize
+pub(crate) fn end_rank(side: Side) -> usize
     ensures { λ r. ⌜ r ≡ last-rank side ⌝ }
 {
     match side {
@@ -68,7 +68,7 @@ pub fn end_rank(side: Side) -> usize
 }
 
 // The home squares of a side's king, and of its rooks on the king's side and on the queen's side.
-pub fn king_square(side: Side) -> u8
+pub(crate) fn king_square(side: Side) -> u8
     ensures home { λ r. ⌜ r ≡ king-home side ⌝ }
     ensures least { λ r. ⌜ 4 ≤ r ⌝ }
     ensures most { λ r. ⌜ r ≤ 60 ⌝ }
@@ -79,7 +79,7 @@ pub fn king_square(side: Side) -> u8
     }
 }
 
-pub fn kingside_rook(side: Side) -> u8
+pub(crate) fn kingside_rook(side: Side) -> u8
     ensures { λ r. ⌜ r ≡ kingside-home side ⌝ }
 {
     match side {
@@ -88,7 +88,7 @@ pub fn kingside_rook(side: Side) -> u8
     }
 }
 
-pub fn queenside_rook(side: Side) -> u8
+pub(crate) fn queenside_rook(side: Side) -> u8
     ensures { λ r. ⌜ r ≡ queenside-home side ⌝ }
 {
     match side {
@@ -98,7 +98,7 @@ pub fn queenside_rook(side: Side) -> u8
 }
 
 // Whether a square is the en passant square.
-pub fn is_crossed(en_passant: Option<Square>, square: usize) -> bool
+pub(crate) fn is_crossed(en_passant: Option<Square>, square: usize) -> bool
     ensures { λ r. ⌜ r ≡ is-square (mapped square-number «en_passant») square ⌝ }
 {
     match en_passant {

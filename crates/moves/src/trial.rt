@@ -1,6 +1,6 @@
 //! Trying moves on a board that shows the position.
 ghost use Prim.Native.Nat.{_<_};
-ghost use mathlib.Core.Bool.{cond};
+ghost use mathlib.Core.Bool.{cond, false};
 ghost use mathlib.Core.Path.{_≡_};
 ghost use Rattle.std.specs.Options.{mapped};
 ghost use Rattle.std.specs.declared.option.Option.the-variants.{Some, None};
@@ -16,6 +16,7 @@ use crate::action::Move;
 use crate::play::codes_after;
 use crate::sort::moves_rook_too;
 use crate::squares::code_on;
+use crate::squares::end_rank;
 use crate::squares::is_own;
 use crate::squares::kingside_rook;
 use crate::squares::one_ahead;
@@ -23,6 +24,8 @@ use crate::squares::queenside_rook;
 use crate::way::goes;
 use board::Board;
 use board::check::in_check;
+use board::piece::Kind;
+use board::piece::code;
 use laws::setup::Setup;
 
 // The squares whose codes a move can change.
@@ -67,7 +70,7 @@ fn leaves_check<B: Board>(board: &mut B, setup: &Setup, m: Move) -> bool
 }
 
 // Whether a move is legal; the board is left as it was.
-pub fn legal_on<B: Board>(board: &mut B, setup: &Setup, m: Move) -> bool
+pub(crate) fn legal_on<B: Board>(board: &mut B, setup: &Setup, m: Move) -> bool
     requires { ⌜ codes (now board) ≡ now setup .codes ⌝ }
     ensures answer { λ r. ⌜ r ≡ legal (parts (now (setup .entry))) (plain m) ⌝ }
     ensures list { λ _. ⌜ codes (now (board .exit)) ≡ now (setup .entry) .codes ⌝ }
@@ -83,12 +86,32 @@ pub fn legal_on<B: Board>(board: &mut B, setup: &Setup, m: Move) -> bool
     !leaves_check(board, setup, m)
 }
 
+// Whether the move with a number is worth a trial: an own piece moves, and only a pawn that comes to the last rank promotes.
+fn worth_trying(setup: &Setup, number: u16) -> bool
+    ensures { λ r. ⌜ (r ≡ false → legal (parts (now (setup .entry))) (numbered-move number) ≡ false) ⌝ }
+{
+    let found = code_on(&setup.codes, (number % 64) as usize);
+    if !is_own(setup.side, found) {
+        return false;
+    }
+    if number < 4096 {
+        return true;
+    }
+    if found != code(setup.side, Kind::Pawn) {
+        return false;
+    }
+    (number / 64 % 64 / 8) as usize == end_rank(setup.side)
+}
+
 // The move with a number, if it is legal.
-pub fn legal_numbered<B: Board>(board: &mut B, setup: &Setup, number: u16) -> Option<Move>
+pub(crate) fn legal_numbered<B: Board>(board: &mut B, setup: &Setup, number: u16) -> Option<Move>
     requires { ⌜ codes (now board) ≡ now setup .codes ⌝ ∗ ⌜ number < 24576 ⌝ }
     ensures answer { λ r. ⌜ mapped plain r ≡ cond (legal (parts (now (setup .entry))) (numbered-move number)) (Some (numbered-move number)) None ⌝ }
     ensures list { λ _. ⌜ codes (now (board .exit)) ≡ now (setup .entry) .codes ⌝ }
 {
+    if !worth_trying(setup, number) {
+        return None;
+    }
     match Move::numbered(number) {
         None => None,
         Some(m) => {
@@ -102,7 +125,7 @@ pub fn legal_numbered<B: Board>(board: &mut B, setup: &Setup, number: u16) -> Op
 }
 
 // Whether there is a legal move.
-pub fn can_move_on<B: Board>(board: &mut B, setup: &Setup) -> bool
+pub(crate) fn can_move_on<B: Board>(board: &mut B, setup: &Setup) -> bool
     requires { ⌜ codes (now board) ≡ now setup .codes ⌝ }
     ensures answer { λ r. ⌜ r ≡ can-move (parts (now (setup .entry))) ⌝ }
     ensures list { λ _. ⌜ codes (now (board .exit)) ≡ now (setup .entry) .codes ⌝ }

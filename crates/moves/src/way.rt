@@ -17,7 +17,7 @@ use board::piece::code;
 use laws::setup::Setup;
 
 // Whether a piece moves as its kind does, on a board that shows the position.
-pub fn goes<B: Board>(board: &B, setup: &Setup, m: Move) -> bool
+pub(crate) fn goes<B: Board>(board: &B, setup: &Setup, m: Move) -> bool
     requires { ⌜ B·Board .codes (now board) ≡ now setup .codes ⌝ }
     ensures { λ r. ⌜ r ≡ going (parts (now (setup .entry))) (plain m) ⌝ }
 {

@@ -11,7 +11,12 @@ use std::io::BufReader;
 use tree::leaves;
 
 // The leaves that a line asks for, on a board.
-fn count<B: Board>(rt: &LibcRuntime, board: &mut B, text: &[u8], depth: u8) -> Result<u64, AnyError> {
+fn count<B: Board>(
+    rt: &LibcRuntime,
+    board: &mut B,
+    text: &[u8],
+    depth: u8,
+) -> Result<u64, AnyError> {
     match fen::read(board, text) {
         Ok(position) => Ok(leaves(rt.alloc(), board, &position, depth)?),
         Err(_) => Err("not a start position".into()),
@@ -25,8 +30,15 @@ fn answer(rt: &LibcRuntime, line: &str) -> Result<(), AnyError> {
     let depth = *depth - b'0';
     let by_mailbox = count(rt, &mut Mailbox::new(), text, depth)?;
     let by_bitboard = count(rt, &mut Bitboard::new(), text, depth)?;
-    let agree = if by_mailbox == by_bitboard { "agree" } else { "differ" };
-    println!(rt, "{line}: mailbox {by_mailbox}, bitboard {by_bitboard}, they {agree}")?;
+    let agree = if by_mailbox == by_bitboard {
+        "agree"
+    } else {
+        "differ"
+    };
+    println!(
+        rt,
+        "{line}: mailbox {by_mailbox}, bitboard {by_bitboard}, they {agree}"
+    )?;
     Ok(())
 }
 

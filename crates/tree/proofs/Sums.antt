@@ -66,7 +66,7 @@ listed-legal p ms i d e h =
     let l = length-map ms in
     let n = ap length e in
     subst (λ (m : rules.Move). legal p m ≡ true) (ap (λ (ls : List rules.Move). getD ls i (plain d)) (sym e) ∙ getD-map ms i d)
-      (kept-passes (legal p) (plain d) _ i (omega arith))
+    (kept-passes (legal p) (plain d) _ i (omega arith))
 
 -- one move more, counted up to a most
 pub one-move : (most s x total n : ℕ) → total ≡ min s most → n ≡ min x most → min (total + n) most ≡ min (s + x) most

@@ -13,7 +13,12 @@ use std::alloc::AllocError;
 use std::alloc::Global;
 
 /// How many positions legal play leads to in exactly so many moves, each way to one counted; at most 2^64 − 1.
-pub fn leaves<B: Board>(heap: Global, board: &mut B, position: &Position, depth: u8) -> Result<u64, AllocError>
+pub fn leaves<B: Board>(
+    heap: Global,
+    board: &mut B,
+    position: &Position,
+    depth: u8,
+) -> Result<u64, AllocError>
     ensures { λ r. ⌜ made r (λ n. n ≡ min (leaf-count (position-parts (now (position .entry))) depth) (2 ^ 64 - 1)) ⌝ }
 {
     if depth == 0 {

@@ -50,11 +50,11 @@ loop-m-again g t c =
     let listed : map plain ms ≡ legal-moves p = ap (map plain) (c .as-slice-m-items .ensures .value) ∙ c .in-Continue-moves .ensures tt .answer in
     let h : i < length ms = omega arith in
     elim (c .match-after .came) [
-      in-Some·in-Continue-leaves w ↦
-        w .total-is ∙ w .saturating-add-total .ensures
-        ∙ counted p n most ms listed i h m (c .m-item .is) (position-parts (w .in-Some .next)) (c .loop-m .total) _ (w .in-Some .ensures tt .answer) (c .loop-m .inv)
+      | in-Some·in-Continue-leaves w ↦
+          w .total-is ∙ w .saturating-add-total .ensures
+          ∙ counted p n most ms listed i h m (c .m-item .is) (position-parts (w .in-Some .next)) (c .loop-m .total) _ (w .in-Some .ensures tt .answer) (c .loop-m .inv)
           (w .in-Continue-leaves .ensures tt)
-    | in-rest w ↦ absurd (not-missing p n most ms listed i h m (c .m-item .is) (w .in-rest .ensures tt .answer))
+      | in-rest w ↦ absurd (not-missing p n most ms listed i h m (c .m-item .is) (w .in-rest .ensures tt .answer))
     ]
 
 pub returns : need.returns
