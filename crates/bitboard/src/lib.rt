@@ -1,4 +1,6 @@
 //! A board of twelve words of 64 bits, one for each code from 1 to 12: bit n of a word says that its piece stands on square n.
+#![tactic(auto)]
+
 ghost use Rattle.std.specs.Prelude.{◌≡◌};
 ghost use Rattle.board.specs.Meaning.{empty_board};
 ghost use Rattle.bitboard.specs.Codes.{codes_of, Apart};

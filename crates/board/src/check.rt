@@ -10,8 +10,8 @@ use crate::side::Side;
 
 /// Whether a side is in check: whether any king of it is attacked.
 pub fn in_check<B: Board>(board: &B, side: Side) -> bool
-    ensures answer { result ≡ in_check side (codes board.now) }
-    ensures rule { Decides result (InCheck side (codes board.now)) }
+    ensures answer { result ≡ in_check side (B.codes board.now) }
+    ensures rule { Decides result (InCheck side (B.codes board.now)) }
 {
     let king = code(side, Kind::King);
     let enemy = side.other();
@@ -27,8 +27,8 @@ pub fn in_check<B: Board>(board: &B, side: Side) -> bool
 
 /// Whether a side would attack a square if a code stood on another; the board's list is left as it was.
 pub fn would_attack<B: Board>(board: &mut B, on: u8, code: u8, by: Side, square: u8) -> bool
-    ensures answer { result ≡ attacks by (put_list (codes board.old) on code) square }
-    ensures list { codes board.new ≡ codes board.old }
+    ensures answer { result ≡ attacks by (put_list (B.codes board.old) on code) square }
+    ensures list { B.codes board.new ≡ B.codes board.old }
 {
     let former = board.put(on, code);
     let answer = board.attacked(by, square);

@@ -1,6 +1,8 @@
 //! What a board means: a list of 64 codes, the attacks on it, and the five calls that every make of board answers.
 //!
 //! A square's number is 8 × (rank − 1) + file, with the files a to h as 0 to 7.
+#![tactic(auto)]
+
 ghost use Rattle.std.specs.Prelude.{◌≡◌, ℕ, ◌≤◌, List, length, slice_index};
 ghost use Rattle.board.specs.Attack.{attacks};
 ghost use Rattle.board.specs.Meaning.{empty_board, looked, put_answer, put_list, next_holding};

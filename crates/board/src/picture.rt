@@ -6,7 +6,7 @@ use crate::Board;
 
 /// The codes that a board shows.
 pub fn picture<B: Board>(board: &B) -> [u8; 64]
-    ensures { result ≡ codes board.now }
+    ensures { result ≡ B.codes board.now }
 {
     let mut seen = [0; 64];
     for square in 0..64u8 {
@@ -17,8 +17,8 @@ pub fn picture<B: Board>(board: &B) -> [u8; 64]
 
 /// Puts each code of a picture on its square; what is no code leaves its square as it was.
 pub fn show<B: Board>(board: &mut B, picture: &[u8; 64])
-    ensures list { codes board.new ≡ put_below 64 (codes board.old) picture.now }
-    ensures whole { Shown picture.now → codes board.new ≡ picture.now }
+    ensures list { B.codes board.new ≡ put_below 64 (B.codes board.old) picture.now }
+    ensures whole { Shown picture.now → B.codes board.new ≡ picture.now }
 {
     for square in 0..64u8 {
         let code = picture[square as usize];

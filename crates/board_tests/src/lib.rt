@@ -1,4 +1,6 @@
 //! Examples for every make of board.
+#![tactic(auto)]
+
 #[cfg(test)]
 mod tests {
     use bitboard::Bitboard;

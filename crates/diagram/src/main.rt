@@ -1,4 +1,6 @@
 //! Reads lines of FEN and draws each position, or says what is wrong with the line.
+#![tactic(auto)]
+
 use drawing::draw_input;
 use mailbox::Mailbox;
 use std::io::{Read, Write};

@@ -1,4 +1,6 @@
 //! Positions drawn as text: what is drawn of each line of FEN of an input.
+#![tactic(auto)]
+
 ghost use Rattle.std.specs.Prelude.{◌≡◌, ◌++◌, IfOk, OnOk};
 ghost use Rattle.drawing.specs.Drawing.{input_drawn, line_drawn};
 

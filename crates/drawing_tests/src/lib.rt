@@ -1,4 +1,6 @@
 //! Examples of odd inputs.
+#![tactic(auto)]
+
 #[cfg(test)]
 mod tests {
     use drawing::draw_input;

@@ -1,5 +1,7 @@
 //! Why a call is refused. A fault belongs to the layer that finds it: text, notation, laws or sheet. On its way up each layer wraps the
 //! one below, so that the cause is kept; its number, and by that its layer, stay those of the cause.
+#![tactic(auto)]
+
 ghost use Rattle.std.specs.Prelude.{◌≡◌};
 ghost use Rattle.faults.specs.Numbers.{text_number, notation_number, laws_number, sheet_number, layer_of};
 ghost use Rattle.faults.specs.declared.NotationFault.TheVariants.{InText};

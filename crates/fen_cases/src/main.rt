@@ -1,5 +1,7 @@
 //! A table of FEN texts: each line has the number of the refusal that a text gets, 00 where it is accepted, a space and the text.
 //! Writes each text that got another answer, and how many there were.
+#![tactic(auto)]
+
 use bitboard::Bitboard;
 use board::Board;
 use mailbox::Mailbox;

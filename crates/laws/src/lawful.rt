@@ -74,7 +74,7 @@ fn no_pawn_on_edge(codes: &[u8; 64]) -> bool
 fn exposed<B: Board>(board: &mut B, codes: &[u8; 64], side: Side) -> bool
     requires { is_board codes.now ≡ true }
     ensures answer { result ≡ in_check side codes.now }
-    ensures list { B.Board.codes board.new ≡ B.Board.codes board.old }
+    ensures list { B.codes board.new ≡ B.codes board.old }
 {
     let former = picture(board);
     show(board, codes);
@@ -165,7 +165,7 @@ fn counters_hold(clock: u16, number: u16) -> bool
 /// The first law that the parts break. The board, which is asked for attacks, is left as it was.
 pub(crate) fn broken<B: Board>(board: &mut B, setup: &Setup) -> Option<Breach>
     ensures answer { result ≡ first_broken_law (parts setup.now) }
-    ensures list { codes board.new ≡ codes board.old }
+    ensures list { B.codes board.new ≡ B.codes board.old }
 {
     if !all_codes(&setup.codes) {
         return Some(Breach::Codes);

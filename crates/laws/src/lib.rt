@@ -1,4 +1,6 @@
 //! The laws of chess: what a lawful position is.
+#![tactic(auto)]
+
 mod lawful;
 pub mod position;
 pub mod setup;

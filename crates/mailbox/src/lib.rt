@@ -1,5 +1,7 @@
 //! A board of 120 cells, ten to a row: the 64 squares within a border of two rows above and below and a column at each side.
 //! The border stops each walk and each leap that leaves the board.
+#![tactic(auto)]
+
 ghost use Rattle.std.specs.Prelude.{◌≡◌, ℕ, ◌<◌, ◌≤◌, slice_index};
 ghost use Rattle.board.specs.declared.piece.Kind.TheVariants.{Pawn, Knight, King};
 ghost use Rattle.board.specs.Geometry.{knight_step, king_step};

@@ -14,7 +14,7 @@ use rules::rights::Castling;
 
 // Castling on the king's side: the right, no piece between king and rook, and no attack on the king's square, the crossed one and the target.
 fn castles_short<B: Board>(board: &B, codes: &[u8; 64], side: Side, right: bool) -> bool
-    requires { B.Board.codes board.now ≡ codes.now }
+    requires { B.codes board.now ≡ codes.now }
     ensures { result ≡ castles_kingside codes.now side right }
 {
     let home = king_square(side);
@@ -33,7 +33,7 @@ fn castles_short<B: Board>(board: &B, codes: &[u8; 64], side: Side, right: bool)
 
 // Castling on the queen's side.
 fn castles_long<B: Board>(board: &B, codes: &[u8; 64], side: Side, right: bool) -> bool
-    requires { B.Board.codes board.now ≡ codes.now }
+    requires { B.codes board.now ≡ codes.now }
     ensures { result ≡ castles_queenside codes.now side right }
 {
     let home = king_square(side);
@@ -63,7 +63,7 @@ fn rights_to_move(setup: &Setup) -> Castling
 
 // Whether a move castles, on a board that shows the position.
 pub(crate) fn castles<B: Board>(board: &B, setup: &Setup, m: Move) -> bool
-    requires { B.Board.codes board.now ≡ setup.now.codes }
+    requires { B.codes board.now ≡ setup.now.codes }
     ensures { result ≡ castling (parts setup.now) (plain m) }
 {
     let side = setup.side;

@@ -17,7 +17,7 @@ use std::alloc::{AllocError, Global};
 /// Whether a move is legal.
 pub fn is_legal<B: Board>(board: &mut B, position: &Position, m: Move) -> bool
     ensures answer { result ≡ legal (position_parts position.now) (plain m) }
-    ensures list { codes board.new ≡ (position_parts position.now).codes }
+    ensures list { B.codes board.new ≡ (position_parts position.now).codes }
 {
     position.show(board);
     legal_on(board, &position.setup, m)
@@ -26,7 +26,7 @@ pub fn is_legal<B: Board>(board: &mut B, position: &Position, m: Move) -> bool
 /// The position after a move, which the board then shows, or none if the move is not legal.
 pub fn after<B: Board>(board: &mut B, position: &Position, m: Move) -> Option<Position>
     ensures answer { option_map position_parts result ≡ (if legal (position_parts position.now) (plain m) then Some (next (position_parts position.now) (plain m)) else None) }
-    ensures list { codes board.new ≡ (if legal (position_parts position.now) (plain m) then codes_after (position_parts position.now) (plain m) else (position_parts position.now).codes) }
+    ensures list { B.codes board.new ≡ (if legal (position_parts position.now) (plain m) then codes_after (position_parts position.now) (plain m) else (position_parts position.now).codes) }
 {
     position.show(board);
     if !legal_on(board, &position.setup, m) {
@@ -41,7 +41,7 @@ pub fn after<B: Board>(board: &mut B, position: &Position, m: Move) -> Option<Po
 /// Whether the side to move has a legal move.
 pub fn can_move<B: Board>(board: &mut B, position: &Position) -> bool
     ensures answer { result ≡ can_move (position_parts position.now) }
-    ensures list { codes board.new ≡ (position_parts position.now).codes }
+    ensures list { B.codes board.new ≡ (position_parts position.now).codes }
 {
     position.show(board);
     can_move_on(board, &position.setup)
@@ -50,7 +50,7 @@ pub fn can_move<B: Board>(board: &mut B, position: &Position) -> bool
 /// Whether the side to move is in check and has no legal move.
 pub fn checkmate<B: Board>(board: &mut B, position: &Position) -> bool
     ensures answer { result ≡ mated (position_parts position.now) }
-    ensures list { codes board.new ≡ (position_parts position.now).codes }
+    ensures list { B.codes board.new ≡ (position_parts position.now).codes }
 {
     position.show(board);
     if in_check(board, position.setup.side) {
@@ -63,7 +63,7 @@ pub fn checkmate<B: Board>(board: &mut B, position: &Position) -> bool
 /// Whether the side to move is not in check and has no legal move.
 pub fn stalemate<B: Board>(board: &mut B, position: &Position) -> bool
     ensures answer { result ≡ stalemated (position_parts position.now) }
-    ensures list { codes board.new ≡ (position_parts position.now).codes }
+    ensures list { B.codes board.new ≡ (position_parts position.now).codes }
 {
     position.show(board);
     if !in_check(board, position.setup.side) {
@@ -80,7 +80,7 @@ pub fn legal_moves<B: Board>(
     position: &Position,
 ) -> Result<Vec<Move>, AllocError>
     ensures answer { IfOk result (λ v. map plain v.items ≡ legal_moves (position_parts position.now)) }
-    ensures list { codes board.new ≡ (position_parts position.now).codes }
+    ensures list { B.codes board.new ≡ (position_parts position.now).codes }
 {
     position.show(board);
     let mut moves = Vec::new(heap);

@@ -1,4 +1,6 @@
 //! Moves: which are legal, what follows from one, check and the mates.
+#![tactic(auto)]
+
 pub mod action;
 mod castle;
 pub mod legal;

@@ -26,9 +26,9 @@ fn is_source<B: Board>(
     promotion: Option<Promotion>,
     from: u8,
 ) -> bool
-    requires { (codes board.old ≡ setup.now.codes) × (from < 64) }
+    requires { (B.codes board.old ≡ setup.now.codes) × (from < 64) }
     ensures answer { result ≡ source (parts setup.now) (number kind) to.number (promotion_number promotion) from }
-    ensures list { codes board.new ≡ setup.now.codes }
+    ensures list { B.codes board.new ≡ setup.now.codes }
 {
     if code_on(&setup.codes, from as usize) != code(setup.side, kind) {
         return false;
@@ -58,7 +58,7 @@ pub fn sources<B: Board>(
     promotion: Option<Promotion>,
 ) -> [bool; 64]
     ensures answer { result ≡ map (source (position_parts position.now) (number kind) to.number (promotion_number promotion)) (range_with_len 0 64) }
-    ensures list { codes board.new ≡ (position_parts position.now).codes }
+    ensures list { B.codes board.new ≡ (position_parts position.now).codes }
 {
     position.show(board);
     let mut found = [false; 64];

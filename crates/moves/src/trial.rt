@@ -39,8 +39,8 @@ fn changed(setup: &Setup, m: Move) -> [u8; 4]
 
 // Puts the codes of some squares, outside which the board shows them already.
 fn redraw<B: Board>(board: &mut B, picture: &[u8; 64], squares: &[u8; 4])
-    requires { (Shown picture.now) × (SameBut squares.now (codes board.old) picture.now) }
-    ensures { codes board.new ≡ picture.now }
+    requires { (Shown picture.now) × (SameBut squares.now (B.codes board.old) picture.now) }
+    ensures { B.codes board.new ≡ picture.now }
 {
     for square in squares {
         board.put(*square, code_on(picture, *square as usize));
@@ -49,9 +49,9 @@ fn redraw<B: Board>(board: &mut B, picture: &[u8; 64], squares: &[u8; 4])
 
 // Whether a move leaves the own king attacked: it is made on the board and taken back.
 fn leaves_check<B: Board>(board: &mut B, setup: &Setup, m: Move) -> bool
-    requires { codes board.old ≡ setup.now.codes }
+    requires { B.codes board.old ≡ setup.now.codes }
     ensures answer { result ≡ in_check setup.now.side (codes_next (parts setup.now) (plain m)) }
-    ensures list { codes board.new ≡ setup.now.codes }
+    ensures list { B.codes board.new ≡ setup.now.codes }
 {
     let next = codes_after(setup, m);
     let squares = changed(setup, m);
@@ -63,9 +63,9 @@ fn leaves_check<B: Board>(board: &mut B, setup: &Setup, m: Move) -> bool
 
 // Whether a move is legal; the board is left as it was.
 pub(crate) fn legal_on<B: Board>(board: &mut B, setup: &Setup, m: Move) -> bool
-    requires { codes board.old ≡ setup.now.codes }
+    requires { B.codes board.old ≡ setup.now.codes }
     ensures answer { result ≡ legal (parts setup.now) (plain m) }
-    ensures list { codes board.new ≡ setup.now.codes }
+    ensures list { B.codes board.new ≡ setup.now.codes }
 {
     let own = is_own(setup.side, code_on(&setup.codes, m.from.number() as usize));
     let blocked = is_own(setup.side, code_on(&setup.codes, m.to.number() as usize));
@@ -97,9 +97,9 @@ fn worth_trying(setup: &Setup, number: u16) -> bool
 
 // The move with a number, if it is legal.
 pub(crate) fn legal_numbered<B: Board>(board: &mut B, setup: &Setup, number: u16) -> Option<Move>
-    requires { (codes board.old ≡ setup.now.codes) × (number < 24576) }
+    requires { (B.codes board.old ≡ setup.now.codes) × (number < 24576) }
     ensures answer { option_map plain result ≡ (if legal (parts setup.now) (numbered_move number) then Some (numbered_move number) else None) }
-    ensures list { codes board.new ≡ setup.now.codes }
+    ensures list { B.codes board.new ≡ setup.now.codes }
 {
     if !worth_trying(setup, number) {
         return None;
@@ -118,9 +118,9 @@ pub(crate) fn legal_numbered<B: Board>(board: &mut B, setup: &Setup, number: u16
 
 // Whether there is a legal move.
 pub(crate) fn can_move_on<B: Board>(board: &mut B, setup: &Setup) -> bool
-    requires { codes board.old ≡ setup.now.codes }
+    requires { B.codes board.old ≡ setup.now.codes }
     ensures answer { result ≡ can_move (parts setup.now) }
-    ensures list { codes board.new ≡ setup.now.codes }
+    ensures list { B.codes board.new ≡ setup.now.codes }
 {
     for number in 0..24576u16 {
         if let Some(_) = legal_numbered(board, setup, number) {

@@ -15,7 +15,7 @@ use laws::setup::Setup;
 
 // Whether a piece moves as its kind does, on a board that shows the position.
 pub(crate) fn goes<B: Board>(board: &B, setup: &Setup, m: Move) -> bool
-    requires { B.Board.codes board.now ≡ setup.now.codes }
+    requires { B.codes board.now ≡ setup.now.codes }
     ensures { result ≡ going (parts setup.now) (plain m) }
 {
     let side = setup.side;

@@ -1,3 +1,5 @@
 //! Move text, read.
+#![tactic(auto)]
+
 pub mod read;
 pub mod text;

@@ -56,7 +56,7 @@ pub fn parse(text: &[u8]) -> Result<Setup, NotationFault>
 pub fn read<B: Board>(board: &mut B, text: &[u8]) -> Result<Position, SheetFault>
     ensures answer { start_parts result ≡ start_answer text.now }
     ensures exact { IfOk result (λ p. fen_of (position_parts p) ≡ text.now) }
-    ensures list { codes board.new ≡ codes board.old }
+    ensures list { B.codes board.new ≡ B.codes board.old }
 {
     let setup = parse(text)?;
     let position = Position::new(board, setup)?;

@@ -1,4 +1,6 @@
 //! Counts the leaves of legal play: each line of standard input has a depth, a space and a FEN text.
+#![tactic(auto)]
+
 use anyhow::anyhow;
 use bitboard::Bitboard;
 use board::Board;

@@ -1,4 +1,6 @@
 //! For each square, the squares beyond it in each direction, and those from which a pawn, a knight or a king attacks it.
+#![tactic(auto)]
+
 ghost use Rattle.std.specs.Prelude.{◌≡◌, ◌+◌, ◌*◌, ◌<◌, ◌&&◌, length, nat_lt};
 ghost use Rattle.board.specs.Below.{some_below, least_below};
 ghost use Rattle.board.specs.Geometry.{knight_step, king_step};

@@ -1,4 +1,6 @@
 //! The rules of chess as definitions: lawful positions, legal moves, and the position after a move.
+#![tactic(auto)]
+
 ghost use Rattle.rules.specs.Legal.{StaysLawful};
 
 pub mod breach;

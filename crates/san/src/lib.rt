@@ -1,4 +1,6 @@
 //! SAN and move text as definitions, and what is proved of them.
+#![tactic(auto)]
+
 ghost use Rattle.san.specs.Sources.{BySource, ByCastling};
 ghost use Rattle.san.specs.Theorems.{ReadsSpelling, ReadsBack, MatchesAlone, TellsApart};
 

@@ -1,4 +1,6 @@
 //! The tree of legal play: how many leaves it has at a depth.
+#![tactic(auto)]
+
 ghost use Rattle.std.specs.Prelude.{◌≡◌, ◌-◌, ◌^◌, min, IfOk};
 ghost use Rattle.laws.specs.Position.{position_parts};
 ghost use Rattle.tree.specs.Leaves.{leaf_count};

@@ -1,4 +1,6 @@
 //! Worked positions, proved by computing with the definitions.
+#![tactic(auto)]
+
 ghost use Rattle.worked.specs.Worked.{WorkedPositions};
 ghost use Rattle.worked.specs.Counts.{MoveCounts};
 

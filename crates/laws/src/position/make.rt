@@ -25,7 +25,7 @@ impl Position {
     /// The position of these parts, or the first law that they break. The board, which is asked for attacks, is left as it was.
     pub fn new<B: Board>(board: &mut B, setup: Setup) -> Result<Position, Breach>
         ensures answer { made_parts result ≡ judged (parts setup) }
-        ensures list { codes board.new ≡ codes board.old }
+        ensures list { B.codes board.new ≡ B.codes board.old }
     {
         match broken(board, &setup) {
             Some(law) => Err(law),
@@ -35,7 +35,7 @@ impl Position {
 
     /// Shows the position on a board.
     pub fn show<B: Board>(&self, board: &mut B)
-        ensures { codes board.new ≡ (position_parts self.now).codes }
+        ensures { B.codes board.new ≡ (position_parts self.now).codes }
     {
         show(board, &self.setup.codes);
     }

@@ -17,8 +17,8 @@ returns-then-attacked g c =
     let e = check_found c.args.side codes c.in-Some.square n.1 (n.2 ∙ c.code-king.ensures) a in
     record { answer = sym e; rule = Decides-at true _ (sym e) (check_rule c.args.side codes) }
 
-pub overflow-add-from : goal.overflow-add-from
-overflow-add-from g c =
+pub overflow_add-from : goal.overflow_add-from
+overflow_add-from g c =
     let n = next_some (g.B.Board.codes c.args.board.now) c.loop-square.from c.code-king.result c.in-Some.square (sym c.in-Some.ensures) in
     let l = n.1 in
     search rules
@@ -56,6 +56,6 @@ returns g c =
     (λ (l : k < c.loop-square.from).
     ap (λ x. attacks x codes k) (sym c.other-enemy.ensures) ∙ c.loop-square.invariant.1 k l (q ∙ sym c.code-king.ensures))
     (λ (l : c.loop-square.from ≤ k).
-    absurd (next_none codes c.loop-square.from c.code-king.result (sym c.in-default.ensures) k l h (q ∙ sym c.code-king.ensures)))
+    absurd (next_none codes c.loop-square.from c.code-king.result (sym c.in_default.ensures) k l h (q ∙ sym c.code-king.ensures)))
     (cases_lt k c.loop-square.from)) in
     record { answer = sym e; rule = Decides-at false _ (sym e) (check_rule side codes) }

@@ -7,15 +7,15 @@ use Rattle.mailbox.proofs.Mailbox.line.Goals as goal
 pub loop-k-init : goal.loop-k-init
 loop-k-init c = start _ _ _ _ c.requires.0 c.cell-at.ensures.0
 
-pub overflow-add-at : goal.overflow-add-at
-overflow-add-at c =
+pub overflow_add-at : goal.overflow_add-at
+overflow_add-at c =
     let h = cell_high _ c.loop-k.invariant.on in
     let s = steps_le c.args.d c.requires.1 in
     let i = c.loop-k.invariant.here in
     record { fits = omega arith }
 
-pub overflow-sub-at : goal.overflow-sub-at
-overflow-sub-at c =
+pub overflow_sub-at : goal.overflow_sub-at
+overflow_sub-at c =
     let h = cell_low c.loop-k.invariant.square in
     let i = c.loop-k.invariant.here in
     omega arith

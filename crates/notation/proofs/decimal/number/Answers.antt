@@ -8,11 +8,11 @@ returns-then-not-digit-at c = sym (number_none _ (sym c.digit-at.ensures ∙ c.i
 pub bounds-text-at : goal.bounds-text-at
 bounds-text-at c = (digit_here c.args.text.now c.args.at (sym c.digit-at.ensures ∙ c.if-not-digit-at.false)).within
 
-pub overflow-add-at : goal.overflow-add-at
-overflow-add-at c = let h = digit_here c.args.text.now c.args.at (sym c.digit-at.ensures ∙ c.if-not-digit-at.false) in omega arith
+pub overflow_add-at : goal.overflow_add-at
+overflow_add-at c = let h = digit_here c.args.text.now c.args.at (sym c.digit-at.ensures ∙ c.if-not-digit-at.false) in omega arith
 
-pub overflow-add-result : goal.overflow-add-result
-overflow-add-result c = let h = digit_here c.args.text.now c.args.at (sym c.digit-at.ensures ∙ c.if-not-digit-at.false) in omega arith
+pub overflow_add-result : goal.overflow_add-result
+overflow_add-result c = let h = digit_here c.args.text.now c.args.at (sym c.digit-at.ensures ∙ c.if-not-digit-at.false) in omega arith
 
 pub returns-then-digit-at : goal.returns-then-digit-at
 returns-then-digit-at c =

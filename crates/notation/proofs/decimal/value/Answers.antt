@@ -7,11 +7,11 @@ use Rattle.notation.proofs.decimal.value.Goals as goal
 pub bounds-text-at : goal.bounds-text-at
 bounds-text-at c = (digit_here c.args.text.now c.loop-sum.at (sym c.digit-at.ensures ∙ c.loop-sum-test.true)).within
 
-pub overflow-sub-text : goal.overflow-sub-text
-overflow-sub-text c = (digit_here c.args.text.now c.loop-sum.at (sym c.digit-at.ensures ∙ c.loop-sum-test.true)).low
+pub overflow_sub-text : goal.overflow_sub-text
+overflow_sub-text c = (digit_here c.args.text.now c.loop-sum.at (sym c.digit-at.ensures ∙ c.loop-sum-test.true)).low
 
-pub overflow-add-at : goal.overflow-add-at
-overflow-add-at c = let h = digit_here c.args.text.now c.loop-sum.at (sym c.digit-at.ensures ∙ c.loop-sum-test.true) in omega arith
+pub overflow_add-at : goal.overflow_add-at
+overflow_add-at c = let h = digit_here c.args.text.now c.loop-sum.at (sym c.digit-at.ensures ∙ c.loop-sum-test.true) in omega arith
 
 pub loop-sum-smaller : goal.loop-sum-smaller
 loop-sum-smaller c = let h = digit_here c.args.text.now c.loop-sum.at (sym c.digit-at.ensures ∙ c.loop-sum-test.true) in omega arith
