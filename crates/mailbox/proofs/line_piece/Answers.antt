@@ -22,7 +22,7 @@ pub returns-else-found-code : goal.returns-else-found-code
 returns-else-found-code c =
     let is : c.code-else-found-code.result ≡ cond (eqb (c.args.d % 2) 0) (code c.args.by Rook) (code c.args.by Bishop) = c.code-else-found-code.ensures
     ∙ elim c.if-d-eq0.branch [
-      | then-d-eq0 w ↦ ap (code c.args.by) w.kind_is ∙ sym (cond-true _ _ _ (eq-eqb _ _ w.if-d-eq0.true))
-      | else-d-eq0 w ↦ ap (code c.args.by) w.kind_is ∙ sym (cond-false _ _ _ (ne_eqb _ _ w.if-d-eq0.false))
+      | then-d-eq0 w ↦ ap (code c.args.by) w.kind-is ∙ sym (cond-true _ _ _ (eq-eqb _ _ w.if-d-eq0.true))
+      | else-d-eq0 w ↦ ap (code c.args.by) w.kind-is ∙ sym (cond-false _ _ _ (ne_eqb _ _ w.if-d-eq0.false))
     ] in
     other_piece c.args.by c.args.d c.args.found c.code.result _ c.if-found-code.false c.code.ensures is

@@ -31,7 +31,7 @@ pub returns-then-found-ne0 : goal.returns-then-found-ne0
 returns-then-found-ne0 c =
     let m = c.args.self.now in
     let w = c.loop-k.invariant in
-    c.line-piece.ensures ∙ walk_first c.args.by m.cells m.border _ _ _ _ c.requires.1 w c.if-found-ne0.true
+    c.line_piece.ensures ∙ walk_first c.args.by m.cells m.border _ _ _ _ c.requires.1 w c.if-found-ne0.true
 
 pub loop-k-preserved : goal.loop-k-preserved
 loop-k-preserved c =

@@ -22,13 +22,14 @@ returns c =
       list = codes_set cells c.args.square c.args.code h len ∙ sym done.0;
     }
 
-pub invariant-of-self : goal.invariant-of-self
-invariant-of-self c =
+pub invariant_of-self : goal.invariant_of-self
+invariant_of-self c =
     let h : c.args.square < 64 = omega arith in
     let k : c.args.code ≤ 12 = omega arith in
     let m = c.args.self.now in
     let len : length m.cells ≡ 120 = search rules in
-    rw c.cell-at.ensures.0 (
-      border_kept m.cells c.args.square c.args.code h m.border,
-      (coded_kept m.cells c.args.square c.args.code h len k m.coded, tt),
-    )
+    rw c.cell-at.ensures.0
+    record {
+      border = border_kept m.cells c.args.square c.args.code h m.border;
+      coded = coded_kept m.cells c.args.square c.args.code h len k m.coded;
+    }
