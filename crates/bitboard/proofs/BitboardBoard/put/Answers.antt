@@ -8,8 +8,8 @@ returns-then-square-gt63 c =
     let no = put_refused (codes_of c.args.self.now.words) c.args.square c.args.code (⊎_elim inl (λ h. inr h.1) c.then-square-gt63.either) in
     record { answer = sym no.1; list = sym no.0 }
 
-pub invariant-of-self : goal.invariant-of-self
-invariant-of-self c = (c.write.ensures.apart, tt)
+pub invariant_of-self : goal.invariant_of-self
+invariant_of-self c = record { apart = c.write.ensures.apart }
 
 pub returns : goal.returns
 returns c =

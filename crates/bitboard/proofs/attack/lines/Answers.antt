@@ -8,10 +8,10 @@ use Rattle.bitboard.specs.Codes.{codes_of}
 use Rattle.board.specs.Hits.{lines_hit}
 use Rattle.bitboard.proofs.HitLaws.{sliders, first_hit, first_line}
 use Rattle.bitboard.proofs.attack.lines.Goals as goal
-use Rattle.bitboard.proofs.attack.lines.Goals.{After-first-among, then-d-eq0, else-d-eq0}
+use Rattle.bitboard.proofs.attack.lines.Goals.{After-first_among, then-d-eq0, else-d-eq0}
 
 -- the answer of a turn
-turn : (c : After-first-among) → c.first-among.result ≡ first_hit c.movers-straight.result c.movers-diagonal.result c.occupied-occupied.result c.loop-d.d c.args.square
+turn : (c : After-first_among) → c.first_among.result ≡ first_hit c.movers-straight.result c.movers-diagonal.result c.occupied-occupied.result c.loop-d.d c.args.square
 turn c =
     let d = c.loop-d.d in
     let t = c.args.square in
@@ -19,18 +19,18 @@ turn c =
       | then-d-eq0 w ↦ w.sliders-is ∙ sym (cond-true _ _ _ (eq-eqb _ _ w.if-d-eq0.true))
       | else-d-eq0 w ↦ w.sliders-is ∙ sym (cond-false _ _ _ (ne_eqb _ _ w.if-d-eq0.false))
     ] in
-    c.first-among.ensures ∙ ap (λ w. some_below 64 (λ s. has w s && first_on c.occupied-occupied.result d t s)) is
+    c.first_among.ensures ∙ ap (λ w. some_below 64 (λ s. has w s && first_on c.occupied-occupied.result d t s)) is
 
-pub returns-then-first-among : goal.returns-then-first-among
+pub returns-then-first_among : goal.returns-then-first_among
 unfolding lines_hit
-returns-then-first-among c =
+returns-then-first_among c =
     let hd : c.loop-d.d < 8 = omega arith in
     sym (some_from 8 _ c.loop-d.d hd
     (sym (first_line c.args.by (codes_of c.args.words.now) _ _ _ c.args.square c.requires.within c.occupied-occupied.ensures c.movers-straight.ensures c.movers-diagonal.ensures _ hd)
-    ∙ sym (turn (goal.at.returns-then-first-among c).After-first-among) ∙ c.if-first-among.true))
+    ∙ sym (turn (goal.at.returns-then-first_among c).After-first_among) ∙ c.if-first_among.true))
 
 pub loop-d-preserved : goal.loop-d-preserved
-loop-d-preserved c = below_more _ _ c.loop-d.invariant (sym (turn (goal.at.loop-d-preserved c).After-first-among) ∙ c.if-first-among.false)
+loop-d-preserved c = below_more _ _ c.loop-d.invariant (sym (turn (goal.at.loop-d-preserved c).After-first_among) ∙ c.if-first_among.false)
 
 pub returns : goal.returns
 unfolding lines_hit

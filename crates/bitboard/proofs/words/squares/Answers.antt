@@ -7,7 +7,7 @@ use Rattle.bitboard.proofs.words.squares.Goals as goal
 
 pub returns-then-code-eq0 : goal.returns-then-code-eq0
 returns-then-code-eq0 c s l =
-    has_not c.occupied.result s c.occupied.type-inv l ∙ ap not (c.occupied.ensures s l) ∙ twice _
+    has_not c.occupied.result s c.occupied.type_inv l ∙ ap not (c.occupied.ensures s l) ∙ twice _
     ∙ ap (eqb (get_or (codes_of c.args.words.now) s 0)) (sym c.if-code-eq0.true)
 
 pub returns-then-code-gt12 : goal.returns-then-code-gt12

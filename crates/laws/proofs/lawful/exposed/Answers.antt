@@ -12,6 +12,6 @@ returns g c =
     let former : Shown c.picture-former.result =
     subst Shown (sym c.picture-former.ensures) (g.met.B.Board.size start, g.met.B.Board.small start) in
     record {
-      answer = c.in-check-answer.ensures.answer ∙ ap (in_check c.args.side) shown;
+      answer = c.in_check-answer.ensures.answer ∙ ap (in_check c.args.side) shown;
       list = c.show-2.ensures.whole former ∙ c.picture-former.ensures;
     }

@@ -20,12 +20,12 @@ returns-then-first-last c =
     let codes = c.args.codes.now in
     let f = c.loop-file.file in
     let e : (not (is_pawn (get_or codes f 0)) && not (is_pawn (get_or codes (56 + f) 0))) ≡ false =
-    let s = some c.is-pawn-first.result c.is-pawn-last.result c.if-first-last.true in cc in
+    let s = some c.is_pawn-first.result c.is_pawn-last.result c.if-first-last.true in cc in
     sym (not_passed _ (λ h. both_ways _ e (all_at 8 _ h f (omega arith))))
 
 pub loop-file-preserved : goal.loop-file-preserved
 loop-file-preserved c =
-    let s = neither c.is-pawn-first.result c.is-pawn-last.result c.if-first-last.false in
+    let s = neither c.is_pawn-first.result c.is_pawn-last.result c.if-first-last.false in
     below_more _ _ c.loop-file.invariant (cc)
 
 pub returns : goal.returns
