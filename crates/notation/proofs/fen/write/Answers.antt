@@ -13,5 +13,5 @@ returns-then-out-text c =
 pub returns : goal.returns
 returns c =
     let e = c.text-text.ensures.value ∙ c.line-line.ensures in
-    let w = written_whole c.text-text.result.now (fen (position_parts c.args.position.now)) c.args.out.now c.copy-from-slice.new.self e c.if-out-text.false c.copy-from-slice.ensures.after in
+    let w = written_whole c.text-text.result.now (fen (position_parts c.args.position.now)) c.args.out.now c.copy_from_slice.new.self e c.if-out-text.false c.copy_from_slice.ensures.after in
     record { answer = w.0; buffer = w.1; back = position_back c.args.position.now; few = subst (λ t. length t ≤ 124) e c.text-text.ensures.few }

@@ -6,21 +6,21 @@ use Rattle.notation.proofs.fen.placement.placement.Goals as goal
 pub loop-row-init : goal.loop-row-init
 loop-row-init c = ranked_none c.args.text.now c.args.from
 
-pub returns-in-err-squares : goal.returns-in-err-squares
-returns-in-err-squares c =
-    let r = c.from-residual.ensures in
-    rw r (ranked_broken c.loop-row.invariant (omega arith) c.in-err-squares.ensures)
+pub returns-in_err-squares : goal.returns-in_err-squares
+returns-in_err-squares c =
+    let r = c.from_residual.ensures in
+    rw r (ranked_broken c.loop-row.invariant (omega arith) c.in_err-squares.ensures)
 
-pub returns-in-err-at : goal.returns-in-err-at
-returns-in-err-at c =
-    let r = c.from-residual-in-err-at.ensures in
-    rw r (ranked_unended c.loop-row.invariant (omega arith) c.in-ok-squares.ensures
-    (c.in-err-at.ensures ∙ ap (λ b. past b (drop c.in-ok-squares.end c.args.text.now)) c.rank-end.ensures))
+pub returns-in_err-at : goal.returns-in_err-at
+returns-in_err-at c =
+    let r = c.from_residual-in_err-at.ensures in
+    rw r (ranked_unended c.loop-row.invariant (omega arith) c.in_ok-squares.ensures
+    (c.in_err-at.ensures ∙ ap (λ b. past b (drop c.in_ok-squares.end c.args.text.now)) c.rank_end.ensures))
 
 pub loop-row-preserved : goal.loop-row-preserved
 loop-row-preserved c =
-    ranked_more c.loop-row.invariant (omega arith) c.in-ok-squares.ensures c.copy-from-slice.new.self c.in-ok-at.at c.copy-from-slice.ensures.after (search rules)
-    (c.in-ok-at.ensures ∙ ap (λ b. past b (drop c.in-ok-squares.end c.args.text.now)) c.rank-end.ensures)
+    ranked_more c.loop-row.invariant (omega arith) c.in_ok-squares.ensures c.copy_from_slice.new.self c.in_ok-at.at c.copy_from_slice.ensures.after (search rules)
+    (c.in_ok-at.ensures ∙ ap (λ b. past b (drop c.in_ok-squares.end c.args.text.now)) c.rank_end.ensures)
 
 pub returns : goal.returns
 returns c = ranked_all c.loop-row.invariant c.loop-row-test.false

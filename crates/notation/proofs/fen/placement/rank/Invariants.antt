@@ -3,7 +3,7 @@ use Rattle.notation.proofs.RankSteps.{Filled}
 use Rattle.notation.proofs.fen.placement.rank.Given as goal
 
 abbrev pub invariant-loop-file : goal.invariant-loop-file
-invariant-loop-file l = Filled l.text l.from l.codes l.file l.at l.after-gap
+invariant-loop-file l = Filled l.text l.from l.codes l.file l.at l.after_gap
 
 abbrev pub decreases-loop-file : goal.decreases-loop-file
 decreases-loop-file l = 8 - l.file
