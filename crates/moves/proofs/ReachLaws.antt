@@ -49,8 +49,8 @@ module _ (side : Side) (codes : List ℕ) (s t : ℕ) where
   pub decides_lines : Decides (some_below 8 (λ d. attacks_along side codes d s t)) ByLine
   decides_lines =
       Decides-like _
-      (λ p. (rule.line (direction p.0), rule.along-moves side codes s t p.0 p.1 p.2))
-      (λ p. rule.moves-along side codes s t p.0 p.1)
+      (λ p. (rule.line (direction p.0), rule.along_moves side codes s t p.0 p.1 p.2))
+      (λ p. rule.moves_along side codes s t p.0 p.1)
       (decides_some 8 (λ d. attacks_along side codes d s t) (λ d. Along side codes d s t) (λ d. decides_along side codes d s t))
 
   pub lines_open : (r : Bool) → Slides side (get_or codes s 0) s t → ((l : Line) → (s ≡ t → ⊥) → On l s t → Decides r (Free l codes s t))

@@ -9,21 +9,20 @@ use Rattle.moves.proofs.PlayLaws.{after_codes}
 use Rattle.moves.proofs.TrialLaws.{pawn_inside}
 use Rattle.moves.proofs.legal.after.Goals as goal
 
-pub setup-after-setup-requires : goal.setup-after-setup-requires
-setup-after-setup-requires g c = pawn_inside (position_parts c.args.position.now) (plain c.args.m) c.args.position.now.ok
+pub setup_after-setup-requires : goal.setup_after-setup-requires
+setup_after-setup-requires g c = pawn_inside (position_parts c.args.position.now) (plain c.args.m) c.args.position.now.ok
 
-pub invariant-of-next : goal.invariant-of-next
-invariant-of-next g c = (
-  ap lawful c.setup-after-setup.ensures
-      ∙ stays_lawful (position_parts c.args.position.now) (plain c.args.m) c.args.position.now.ok (sym c.if-not-legal-on.ensures.answer),
-  tt,
-)
+pub invariant_of-next : goal.invariant_of-next
+invariant_of-next g c = record {
+  ok = ap lawful c.setup_after-setup.ensures
+      ∙ stays_lawful (position_parts c.args.position.now) (plain c.args.m) c.args.position.now.ok (sym c.if-not-legal_on.ensures.answer);
+}
 
 pub returns : goal.returns
 returns g c =
-    let l = sym c.if-not-legal-on.ensures.answer in
+    let l = sym c.if-not-legal_on.ensures.answer in
     record {
-      answer = ap Some c.setup-after-setup.ensures ∙ sym (cond-true _ _ _ l);
-      list = c.show-2.ensures ∙ ap (λ (p : Parts). p.codes) c.setup-after-setup.ensures
+      answer = ap Some c.setup_after-setup.ensures ∙ sym (cond-true _ _ _ l);
+      list = c.show-2.ensures ∙ ap (λ (p : Parts). p.codes) c.setup_after-setup.ensures
           ∙ after_codes (position_parts c.args.position.now) (plain c.args.m) ∙ sym (cond-true _ _ _ l);
     }

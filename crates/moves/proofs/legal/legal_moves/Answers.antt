@@ -3,22 +3,22 @@ use Rattle.laws.specs.Position.{position_parts}
 use Rattle.moves.specs.Action.{plain}
 use Rattle.moves.proofs.TrialLaws.{none_below, turn_found, turn_none, all_below}
 use Rattle.moves.proofs.legal.legal_moves.Goals as goal
-use Rattle.moves.proofs.legal.legal_moves.Goals.{in-Some+in-ok-push, in-default}
+use Rattle.moves.proofs.legal.legal_moves.Goals.{in-Some+in_ok-push, in_default}
 
 pub loop-number-init : goal.loop-number-init
 loop-number-init g c = (c.show.ensures, ap (map plain) c.new-moves.ensures.items ∙ sym (none_below (position_parts c.args.position.now)))
 
 pub loop-number-preserved : goal.loop-number-preserved
 loop-number-preserved g c = (
-  c.legal-numbered.ensures.list,
-  elim c.match-legal-numbered.branch [
-    | in-Some+in-ok-push w ↦
+  c.legal_numbered.ensures.list,
+  elim c.match-legal_numbered.branch [
+    | in-Some+in_ok-push w ↦
         ap (λ v. map plain (vec_items v)) w.moves-is
         ∙ turn_found (position_parts c.args.position.now) c.loop-number.number plain _ c.loop-number.invariant.1 w.in-Some.m _ w.in-Some.ensures.answer
-        w.in-ok-push.ensures.items
-    | in-default w ↦
+        w.in_ok-push.ensures.items
+    | in_default w ↦
         ap (λ v. map plain (vec_items v)) w.moves-is
-        ∙ turn_none (position_parts c.args.position.now) c.loop-number.number plain _ c.loop-number.invariant.1 w.in-default.ensures.answer
+        ∙ turn_none (position_parts c.args.position.now) c.loop-number.number plain _ c.loop-number.invariant.1 w.in_default.ensures.answer
   ],
 )
 

@@ -5,5 +5,5 @@ use Rattle.moves.proofs.play.setup_after.Goals as goal
 
 pub returns : goal.returns
 returns c =
-    parts_after (parts c.args.setup.now) (plain c.args.m) _ _ _ _ _ _ c.codes-after.ensures c.other.ensures c.all-rights-after.ensures
-    c.just-crossed.ensures c.next-clock.ensures c.next-number.ensures
+    parts_after (parts c.args.setup.now) (plain c.args.m) _ _ _ _ _ _ c.codes_after.ensures c.other.ensures c.all_rights_after.ensures
+    c.just_crossed.ensures c.next_clock.ensures c.next_number.ensures

@@ -7,7 +7,7 @@ pub returns-then-codes-at-ne0 : goal.returns-then-codes-at-ne0
 returns-then-codes-at-ne0 c = λ l ne on. (
   λ e. absurd (both_ways false refl e),
   λ f. absurd (walk_stopped c.args.codes.now c.args.from c.args.to _ _ _ c.loop-at.at c.loop-at.invariant.0 c.requires.0 c.requires.1
-      c.min-low.ensures c.max-high.ensures c.step-between-step.ensures.0 c.loop-at.invariant.1 l ne on c.loop-at-test.true
+      c.min-low.ensures c.max-high.ensures c.step_between-step.ensures.0 c.loop-at.invariant.1 l ne on c.loop-at-test.true
       c.if-codes-at-ne0.true f),
 )
 
@@ -20,7 +20,7 @@ loop-at-preserved c =
 pub returns : goal.returns
 returns c = λ l ne on. (
   λ _. walk_ended c.args.codes.now c.args.from c.args.to _ _ _ c.loop-at.at c.loop-at.invariant.0 c.requires.0 c.requires.1
-      c.min-low.ensures c.max-high.ensures c.step-between-step.ensures.0 c.loop-at.invariant.1 l ne on c.loop-at-test.false
+      c.min-low.ensures c.max-high.ensures c.step_between-step.ensures.0 c.loop-at.invariant.1 l ne on c.loop-at-test.false
       c.loop-at.invariant.2,
   λ _. refl,
 )

@@ -6,24 +6,24 @@ use Rattle.moves.proofs.reach.reaches.Goals as goal
 
 pub returns-then-found-code : goal.returns-then-found-code
 returns-then-found-code c =
-    c.pawn-reaches.ensures ∙ sym (pawn_attacks c.args.side c.args.codes.now c.args.from c.args.to (c.if-found-code.true ∙ c.code.ensures))
+    c.pawn_reaches.ensures ∙ sym (pawn_attacks c.args.side c.args.codes.now c.args.from c.args.to (c.if-found-code.true ∙ c.code.ensures))
 
 pub returns-then-found-code-2 : goal.returns-then-found-code-2
 returns-then-found-code-2 c =
-    c.knight-reaches.ensures ∙ sym (knight_attacks c.args.side c.args.codes.now c.args.from c.args.to (c.if-found-code-2.true ∙ c.code-2.ensures))
+    c.knight_reaches.ensures ∙ sym (knight_attacks c.args.side c.args.codes.now c.args.from c.args.to (c.if-found-code-2.true ∙ c.code-2.ensures))
 
 pub returns-then-found-code-3 : goal.returns-then-found-code-3
 returns-then-found-code-3 c =
-    c.king-reaches.ensures ∙ sym (king_attacks c.args.side c.args.codes.now c.args.from c.args.to (c.if-found-code-3.true ∙ c.code-3.ensures))
+    c.king_reaches.ensures ∙ sym (king_attacks c.args.side c.args.codes.now c.args.from c.args.to (c.if-found-code-3.true ∙ c.code-3.ensures))
 
-pub returns-then-slides-to : goal.returns-then-slides-to
-returns-then-slides-to c =
-    lines_open c.args.side c.args.codes.now c.args.from c.args.to _ (c.slides-to.ensures.0 c.if-slides-to.true) c.line-open.ensures
+pub returns-then-slides_to : goal.returns-then-slides_to
+returns-then-slides_to c =
+    lines_open c.args.side c.args.codes.now c.args.from c.args.to _ (c.slides_to.ensures.0 c.if-slides_to.true) c.line_open.ensures
     ∙ sym (line_attacks c.args.side c.args.codes.now c.args.from c.args.to
     (λ e. c.if-found-code.false (e ∙ sym c.code.ensures)) (λ e. c.if-found-code-2.false (e ∙ sym c.code-2.ensures)) (λ e. c.if-found-code-3.false (e ∙ sym c.code-3.ensures)))
 
-pub returns-else-slides-to : goal.returns-else-slides-to
-returns-else-slides-to c =
+pub returns-else-slides_to : goal.returns-else-slides_to
+returns-else-slides_to c =
     sym (line_attacks c.args.side c.args.codes.now c.args.from c.args.to
     (λ e. c.if-found-code.false (e ∙ sym c.code.ensures)) (λ e. c.if-found-code-2.false (e ∙ sym c.code-2.ensures)) (λ e. c.if-found-code-3.false (e ∙ sym c.code-3.ensures))
-    ∙ lines_shut c.args.side c.args.codes.now c.args.from c.args.to (not_from_Decides _ c.slides-to.ensures c.if-slides-to.false))
+    ∙ lines_shut c.args.side c.args.codes.now c.args.from c.args.to (not_from_Decides _ c.slides_to.ensures c.if-slides_to.false))

@@ -11,10 +11,10 @@ use Rattle.moves.proofs.source.sources.Goals as goal
 
 pub loop-from-preserved : goal.loop-from-preserved
 loop-from-preserved g c = (
-  c.is-source.ensures.list,
+  c.is_source.ensures.list,
   length-set c.loop-from.found c.loop-from.from _ ∙ c.loop-from.invariant.1,
   source_written (position_parts c.args.position.now) (number c.args.kind) c.args.to.number (promotion_number c.args.promotion) c.loop-from.found c.loop-from.from _
-      (let h = c.loop-from.invariant.1 in omega arith) c.loop-from.invariant.2 c.is-source.ensures.answer,
+      (let h = c.loop-from.invariant.1 in omega arith) c.loop-from.invariant.2 c.is_source.ensures.answer,
 )
 
 pub returns : goal.returns

@@ -10,7 +10,7 @@ returns-in-Some g c =
     let n = c.loop-number.number in
     record {
       answer = can_found p n (omega arith) (found_legal _ (numbered_move n) _ c.in-Some.ensures.answer).0;
-      list = c.legal-numbered.ensures.list;
+      list = c.legal_numbered.ensures.list;
     }
 
 pub returns : goal.returns

@@ -8,8 +8,8 @@ returns-in-None g c = record {
   list = c.requires.0;
 }
 
-pub returns-then-not-worth-trying : goal.returns-then-not-worth-trying
-returns-then-not-worth-trying g c = record {
-  answer = none_tried (parts c.args.setup.now) c.args.number (c.worth-trying.ensures c.if-not-worth-trying.true);
+pub returns-then-not-worth_trying : goal.returns-then-not-worth_trying
+returns-then-not-worth_trying g c = record {
+  answer = none_tried (parts c.args.setup.now) c.args.number (c.worth_trying.ensures c.if-not-worth_trying.true);
   list = c.requires.0;
 }
