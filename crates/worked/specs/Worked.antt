@@ -31,7 +31,7 @@ attacked_rook_way = position "1r2k3/8/8/8/8/8/8/R3K3 w Q - 0 1"
 
 pub record WorkedPositions : Type 0 where
   pub twenty_moves_at_first : length (legal_moves initial_parts) ≡ 20
-  pub en-passant-square-after-a-double-step :
+  pub en_passant_square_after_a_double_step :
       fen (after initial_parts (move 12 28)) ≡ bytes "rnbqkbnr/pppppppp/8/8/4P3/8/PPPP1PPP/RNBQKBNR b KQkq e3 0 1"
   pub a_pinned_piece_is_no_rival : san pinned_knight (move 6 12) ≡ bytes "Ne2"
   pub a_pinned_piece_does_not_move : move_answer pinned_knight (bytes "Nce2") ≡ Err NoMatch

@@ -6,7 +6,7 @@ pub returns : goal.returns
 unfolding all_open
 returns c = record {
   twenty_moves_at_first = refl;
-  en-passant-square-after-a-double-step = refl;
+  en_passant_square_after_a_double_step = refl;
   a_pinned_piece_is_no_rival = refl;
   a_pinned_piece_does_not_move = refl;
   rivals_on_other_files = refl;

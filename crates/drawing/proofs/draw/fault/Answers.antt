@@ -14,9 +14,9 @@ returns c =
     (vec_items c.number-5.new.out) (vec_items c.text-5.new.out)
     (bytes "% fault ") (digits number) (bytes " layer ") (digits (layer_of number)) (bytes " byte ") (digits c.args.byte) (bytes " line ")
     (digits c.args.line) (line_feed ∷ line_feed ∷ [])
-    c.in-ok-text.ensures
-    (c.in-ok-number.ensures ∙ ap (λ n. vec_items c.text.new.out ++ digits n) c.number.ensures)
-    c.in-ok-text-2.ensures
-    (c.in-ok-number-2.ensures ∙ ap (λ n. vec_items c.text-2.new.out ++ digits n) c.layer.ensures)
-    c.in-ok-text-3.ensures c.in-ok-number-3.ensures c.in-ok-text-4.ensures c.in-ok-number-4.ensures
-    c.in-ok-text-5.ensures
+    c.in_ok-text.ensures
+    (c.in_ok-number.ensures ∙ ap (λ n. vec_items c.text.new.out ++ digits n) c.number.ensures)
+    c.in_ok-text-2.ensures
+    (c.in_ok-number-2.ensures ∙ ap (λ n. vec_items c.text-2.new.out ++ digits n) c.layer.ensures)
+    c.in_ok-text-3.ensures c.in_ok-number-3.ensures c.in_ok-text-4.ensures c.in_ok-number-4.ensures
+    c.in_ok-text-5.ensures

@@ -18,4 +18,4 @@ front text out done n h e d =
     rw (z, d, cond-false _ _ _ short) (take_at text _ (length text) refl)
 
 pub returns : goal.returns
-returns c = c.in-ok-text.ensures ∙ ap (λ x. vec_items c.args.out.now ++ x) (front (fen (position_parts c.args.position.now)) (replicate 124 0) c.write.new.out c.in-Ok.length c.write.ensures.few c.in-Ok.ensures.answer c.in-Ok.ensures.buffer)
+returns c = c.in_ok-text-in-Ok.ensures ∙ ap (λ x. vec_items c.args.out.now ++ x) (front (fen (position_parts c.args.position.now)) (replicate 124 0) c.write.new.out c.in-Ok.length c.write.ensures.few c.in-Ok.ensures.answer c.in-Ok.ensures.buffer)

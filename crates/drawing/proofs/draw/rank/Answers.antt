@@ -12,7 +12,7 @@ pub loop-file-preserved : goal.loop-file-preserved
 unfolding squares_drawn
 loop-file-preserved c =
     let i = c.loop-file.invariant in
-    let w = c.in-ok-text-2.ensures in
+    let w = c.in_ok-text-2.ensures in
     let l = c.letter.ensures in
     rw add-one (simp (w, i, l, append_assoc))
 
@@ -22,4 +22,4 @@ returns c =
     let i = rw e at c.loop-file.invariant in
     three (vec_items c.args.out.now) (vec_items c.text.new.out) (vec_items c.loop-file.out) (vec_items c.text-2.new.out)
     ((49 + c.args.rank) ∷ []) (squares_drawn c.args.codes.now c.args.rank 8) (line_feed ∷ [])
-    c.in-ok-text.ensures i c.in-ok-text-3.ensures
+    c.in_ok-text.ensures i c.in_ok-text-3.ensures

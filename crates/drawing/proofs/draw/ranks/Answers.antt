@@ -11,7 +11,7 @@ pub loop-above-preserved : goal.loop-above-preserved
 unfolding ranks_drawn
 loop-above-preserved c =
     let i = c.loop-above.invariant in
-    let w = c.in-ok-rank.ensures in
+    let w = c.in_ok-rank.ensures in
     rw add-one (simp (w, i, append_assoc))
 
 pub returns : goal.returns

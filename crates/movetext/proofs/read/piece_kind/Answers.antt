@@ -8,5 +8,5 @@ returns-in-empty c = kind_none c.args.text.now (search rules)
 pub returns-in-len1 : goal.returns-in-len1
 returns-in-len1 c = c.letter.ensures ∙ kind_one c.args.text.now (search rules)
 
-pub returns-in-default : goal.returns-in-default
-returns-in-default c = kind_many c.args.text.now (search rules)
+pub returns-in_default : goal.returns-in_default
+returns-in_default c = kind_many c.args.text.now (search rules)

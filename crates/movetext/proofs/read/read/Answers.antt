@@ -11,8 +11,8 @@ returns-in-Some c = ap (λ (o : Option Said). ok_or o NotMoveText) (sym (castles
 
 pub returns-in-Some-piece : goal.returns-in-Some-piece
 returns-in-Some-piece c =
-    ap (λ (o : Option Said). ok_or o NotMoveText) (sym (piece_is c.args.text.now _ _ c.without-check.ensures c.in-Some-piece.ensures))
+    ap (λ (o : Option Said). ok_or o NotMoveText) (sym (piece_is c.args.text.now _ _ c.without_check.ensures c.in-Some-piece.ensures))
 
 pub returns-in-None : goal.returns-in-None
 returns-in-None c =
-    ap (λ (o : Option Said). ok_or o NotMoveText) (sym (neither_read c.args.text.now _ c.in-default.ensures c.without-check.ensures c.in-None.ensures))
+    ap (λ (o : Option Said). ok_or o NotMoveText) (sym (neither_read c.args.text.now _ c.in_default.ensures c.without_check.ensures c.in-None.ensures))
