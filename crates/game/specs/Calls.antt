@@ -1,5 +1,5 @@
 -- The calls on a score: what refuses each, and what each does to the record.
-use Rattle.std.specs.Prelude.{ℕ, ◌+◌, ◌-◌, Bool, true, false, cond, not, List, [], ◌∷◌, ◌++◌, length, take, Some, None, Ok, Err, Option, Result, ◌==◌, nat_le, nat_lt}
+use Rattle.std.specs.Prelude.{ℕ, ◌+◌, ◌-◌, Bool, not, List, [], ◌∷◌, length, take, Some, None, Ok, Err, Option, Result, ◌==◌, nat_le, nat_lt}
 use Rattle.std.specs.Option.{option_or}
 use Rattle.faults.specs.declared.NotationFault.TheVariants.{NotGlyph, BadRemark, NoWord}
 use Rattle.faults.specs.declared.LawsFault.{LawsFault}
@@ -9,10 +9,10 @@ use Rattle.faults.specs.declared.SheetFault.TheVariants.{Settled, ItemsFull, Rem
 use Rattle.rules.specs.Move.{Move}
 use Rattle.san.specs.Text.{move_answer}
 use Rattle.game.specs.declared.outcome.Outcome.{Outcome}
-use Rattle.game.specs.Record.{Item, move, glyph, remark, opening, ending, Game, with_items, with_result, added, remark_bytes, most_items, most_remark_bytes, most_branches}
+use Rattle.game.specs.Record.{move, glyph, remark, opening, ending, Game, with_items, with_result, added, remark_bytes, most_items, most_remark_bytes, most_branches}
 use Rattle.game.specs.Lines.{Place, place, has_move}
 use Rattle.game.specs.Words.{words, is_bad_remark, no_words, kept}
-use Rattle.game.specs.Results.{first, answered, is_closed, is_wrong}
+use Rattle.game.specs.Results.{first, is_closed, is_wrong}
 
 -- a call: play a move text, add a glyph by its number or a remark, open a branch or leave it, strike the last item, settle the result
 pub data Call : Type 0 where

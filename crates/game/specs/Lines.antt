@@ -1,8 +1,7 @@
 -- Where the items of a record lead.
-use Rattle.std.specs.Prelude.{ℕ, ◌-◌, Bool, true, false, cond, not, ◌&&◌, List, [], ◌∷◌, ◌++◌, length, take, is_some, Some, None, Option, ◌==◌, nat_le, nat_lt, slice_index_or}
+use Rattle.std.specs.Prelude.{ℕ, ◌-◌, Bool, true, ◌&&◌, List, [], ◌∷◌, ◌++◌, length, take, is_some, Some, None, Option, ◌==◌, nat_le, nat_lt, slice_index_or}
 use Rattle.board.specs.Below.{◌and_then◌}
 use Rattle.rules.specs.Parts.{Parts}
-use Rattle.rules.specs.Move.{Move}
 use Rattle.rules.specs.After.{after}
 use Rattle.rules.specs.Legal.{legal}
 use Rattle.game.specs.Record.{Item, move, glyph, remark, opening, ending, Game, most_branches}

@@ -1,5 +1,5 @@
 -- The record of a game.
-use Rattle.std.specs.Prelude.{ℕ, List, [], ◌∷◌, ◌++◌, length, codes as bytes}
+use Rattle.std.specs.Prelude.{ℕ, List, [], ◌∷◌, ◌++◌, codes as bytes}
 use Rattle.rules.specs.Parts.{Parts, initial_parts}
 use Rattle.rules.specs.Move.{Move}
 use Rattle.game.specs.declared.outcome.Outcome.{Outcome}

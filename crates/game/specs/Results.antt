@@ -1,5 +1,5 @@
 -- Answers of calls, and the results of a game.
-use Rattle.std.specs.Prelude.{ℕ, Bool, true, false, cond, not, ◌&&◌, List, [], ◌∷◌, Some, None, Ok, Err, codes as bytes, Option, Result}
+use Rattle.std.specs.Prelude.{ℕ, Bool, true, false, not, List, [], ◌∷◌, Some, None, Ok, Err, codes as bytes, Option, Result}
 use Rattle.board.specs.declared.side.Side.{Side}
 use Rattle.board.specs.declared.side.Side.TheVariants.{White, Black}
 use Rattle.faults.specs.declared.SheetFault.{SheetFault}

@@ -1,5 +1,5 @@
 -- The heading of a game: its tags and its start.
-use Rattle.std.specs.Prelude.{ℕ, Bool, true, false, cond, not, ◌&&◌, ◌||◌, leb, List, [], ◌∷◌, length, get_or, set, replicate, Some, None, Ok, Err, codes as bytes, Option, Result, ◌==◌, nat_le, nat_lt, slice_index_or, slice_set}
+use Rattle.std.specs.Prelude.{ℕ, Bool, true, false, cond, not, ◌&&◌, ◌||◌, leb, List, [], ◌∷◌, length, get_or, replicate, Some, None, Ok, Err, codes as bytes, Option, ◌==◌, nat_le, nat_lt, slice_index_or, slice_set}
 use Rattle.board.specs.Below.{least_below}
 use Rattle.faults.specs.declared.NotationFault.TheVariants.{TagName, TagValue}
 use Rattle.faults.specs.declared.LawsFault.TheVariants.{InNotation}
@@ -9,7 +9,7 @@ use Rattle.rules.specs.Parts.{Parts}
 use Rattle.san.specs.Text.{same_bytes}
 use Rattle.notation.specs.Answers.{start_answer}
 use Rattle.game.specs.Record.{Game, Tag, roster, new_game, most_tags}
-use Rattle.game.specs.Results.{first, fault_of, answered}
+use Rattle.game.specs.Results.{first, fault_of}
 
 -- every byte passes
 abbrev pub every : (ℕ → Bool) → List ℕ → Bool

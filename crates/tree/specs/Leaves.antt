@@ -1,7 +1,6 @@
 -- The leaves of legal play.
-use Rattle.std.specs.Prelude.{ℕ, zero, suc, ◌+◌, List, [], ◌∷◌, map, sum_by}
+use Rattle.std.specs.Prelude.{ℕ, zero, suc, sum_by}
 use Rattle.rules.specs.Parts.{Parts}
-use Rattle.rules.specs.Move.{Move}
 use Rattle.rules.specs.After.{after}
 use Rattle.rules.specs.Legal.{legal_moves}
 

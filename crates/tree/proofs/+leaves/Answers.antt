@@ -1,14 +1,8 @@
-use Rattle.std.proofs.Common.{◌≡◌, ℕ, ◌+◌, ◌-◌, ◌^◌, ◌<◌, ◌≤◌, min, true, cond, map, length, get_or, take, Some, None, vec_items, sum_by, Option, sym, refl, ap, ◌∙◌, arith}
-use Rattle.std.specs.Option.{option_map}
+use Rattle.std.proofs.Common.{◌≡◌, ℕ, ◌-◌, ◌^◌, ◌<◌, min, map, length, take, vec_items, sum_by, sym, refl, ap, ◌∙◌, arith}
 use Rattle.std.proofs.lemmas.List.{take_all}
-use Rattle.std.proofs.lemmas.List.Sums.{sum_by_more}
-use Rattle.std.proofs.lemmas.Bool.{cond-true}
-use Rattle.rules.specs.Parts.{Parts}
-use Rattle.rules.specs.After.{after}
 use Rattle.rules.specs.Legal.{legal_moves}
 use Rattle.laws.specs.Position.{position_parts}
 use Rattle.moves.specs.Action.{plain}
-use Rattle.tree.specs.Leaves.{leaf_count}
 use Rattle.tree.proofs.Sums.{leaves_by, leaves_sum, counted, not_missing, first_leaf, last_leaves}
 use Rattle.tree.proofs.+leaves.Goals as goal
 use Rattle.tree.proofs.+leaves.Goals.{in-Some+in_ok-leaves, in_default}

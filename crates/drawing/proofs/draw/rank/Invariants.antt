@@ -1,4 +1,4 @@
-use Rattle.std.proofs.Common.{◌≡◌, ◌+◌, ◌++◌, vec_items}
+use Rattle.std.proofs.Common.{◌≡◌, ◌++◌, vec_items}
 use Rattle.drawing.specs.Drawing.{squares_drawn}
 use Rattle.drawing.proofs.draw.rank.Given as goal
 

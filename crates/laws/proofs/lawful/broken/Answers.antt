@@ -1,6 +1,5 @@
 use Rattle.std.proofs.Common.{sym, refl, ap, ◌∙◌}
 use Rattle.board.specs.Attack.{in_check}
-use Rattle.board.specs.Piece.{other}
 use Rattle.rules.specs.Lawful.{broken}
 use Rattle.laws.proofs.lawful.broken.Goals as goal
 

@@ -1,4 +1,3 @@
-use Rattle.std.proofs.Common.{sym, ap, ◌∙◌}
 use Rattle.laws.specs.Setup.{parts}
 use Rattle.moves.specs.Action.{promotion_number}
 use Rattle.moves.proofs.SourceLaws.{square_made, other_kind, castles, goes_plainly}

@@ -1,4 +1,4 @@
-use Rattle.std.proofs.Common.{◌-◌, drop, ap, ◌∙◌, arith, rules}
+use Rattle.std.proofs.Common.{drop, ap, ◌∙◌, arith, rules}
 use Rattle.notation.specs.Reader.{past}
 use Rattle.notation.proofs.RankSteps.{ranked_none, ranked_all, ranked_broken, ranked_unended, ranked_more}
 use Rattle.notation.proofs.fen.placement.placement.Goals as goal
