@@ -61,19 +61,19 @@ module _ (codes picture : List ℕ) (long : length codes ≡ 64) (shown : Shown 
   length_below zero h = long
   length_below (suc n) h = length_put (put_below n codes picture) n (get_or picture n 0) (omega arith) (shown.1 n) (length_below n (omega arith))
 
-  getD_below : (n s : ℕ) → n ≤ 64 → s < n → get_or (put_below n codes picture) s 0 ≡ get_or picture s 0
+  put_below_at : (n s : ℕ) → n ≤ 64 → s < n → get_or (put_below n codes picture) s 0 ≡ get_or picture s 0
   unfolding put_below
-  getD_below zero s h k = absurd (omega arith)
-  getD_below (suc n) s h k =
+  put_below_at zero s h k = absurd (omega arith)
+  put_below_at (suc n) s h k =
       let was = put_below n codes picture in
       let l = length_below n (omega arith) in
       ap (λ xs. get_or xs s 0) (put_done was n (get_or picture n 0) (omega arith) (shown.1 n)).0
       ∙ ⊎_elim
       (λ (e : s ≡ n). rw e (get_or-set_same was n (get_or picture n 0) 0 (omega arith)))
-      (λ (d : s ≡ n → ⊥). get_or-set_other was n s (get_or picture n 0) 0 d ∙ getD_below n s (omega arith) (omega arith))
+      (λ (d : s ≡ n → ⊥). get_or-set_other was n s (get_or picture n 0) 0 d ∙ put_below_at n s (omega arith) (omega arith))
       (cases_eq s n)
 
   pub put_all : put_below 64 codes picture ≡ picture
   put_all =
       let l = length_below 64 (omega arith) in
-      ext_get_or 0 (put_below 64 codes picture) picture (l ∙ sym shown.0) (λ s h. getD_below 64 s (omega arith) (omega arith))
+      ext_get_or 0 (put_below 64 codes picture) picture (l ∙ sym shown.0) (λ s h. put_below_at 64 s (omega arith) (omega arith))

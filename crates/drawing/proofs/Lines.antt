@@ -41,14 +41,14 @@ unfolding rest_drawn
 rest_none byte line = refl
 
 -- what is drawn so far, and the rest, is all
-abbrev pub Goes_on : List ℕ → List ℕ → ℕ → ℕ → ℕ → Type 0
-Goes_on input out start line at = out ++ rest_drawn (read_to input start at) start line (drop at input) ≡ input_drawn input
+abbrev pub GoesOn : List ℕ → List ℕ → ℕ → ℕ → ℕ → Type 0
+GoesOn input out start line at = out ++ rest_drawn (read_to input start at) start line (drop at input) ≡ input_drawn input
 
-module _ (input out : List ℕ) (start line at : ℕ) (h : start ≤ at) (k : at < length input) (so_far : Goes_on input out start line at) where
+module _ (input out : List ℕ) (start line at : ℕ) (h : start ≤ at) (k : at < length input) (so_far : GoesOn input out start line at) where
   step : rest_drawn (read_to input start at) start line (drop at input) ≡ rest_drawn (read_to input start at) start line (get_or input at 0 ∷ drop (at + 1) input)
   step = ap (rest_drawn (read_to input start at) start line) (drop_more input at 0 k)
 
-  pub goes_byte : (get_or input at 0 ≡ line_feed → ⊥) → Goes_on input out start line (at + 1)
+  pub goes_byte : (get_or input at 0 ≡ line_feed → ⊥) → GoesOn input out start line (at + 1)
   goes_byte ne =
       let d = length-drop start input in
       let z : at + 1 - start ≡ at - start + 1 = omega arith in
@@ -60,7 +60,7 @@ module _ (input out : List ℕ) (start line at : ℕ) (h : start ≤ at) (k : at
       ∙ ap (λ r. out ++ r) (sym (step ∙ rest_byte (read_to input start at) start line (get_or input at 0) (drop (at + 1) input) ne)) ∙ so_far
 
   pub goes_line : (out' : List ℕ) → get_or input at 0 ≡ line_feed → out' ≡ out ++ line_drawn (read_to input start at) start line
-      → Goes_on input out' (at + 1) (line + 1) (at + 1)
+      → GoesOn input out' (at + 1) (line + 1) (at + 1)
   goes_line out' e w =
       let z : at + 1 - (at + 1) ≡ 0 = omega arith in
       let none : read_to input (at + 1) (at + 1) ≡ [] = ap (λ n. take n (drop (at + 1) input)) z in
@@ -73,16 +73,16 @@ module _ (input out : List ℕ) (start line at : ℕ) (h : start ≤ at) (k : at
       ∙ ap (λ n. line_drawn (read_to input start at) start line ++ rest_drawn [] n (line + 1) (drop (at + 1) input)) b))
       ∙ so_far
 
-pub goes_start : (input out : List ℕ) → out ≡ [] → Goes_on input out 0 1 0
+pub goes_start : (input out : List ℕ) → out ≡ [] → GoesOn input out 0 1 0
 goes_start input out e = ap (λ o. o ++ rest_drawn [] 0 1 input) e
 
-module _ (input out : List ℕ) (start line at : ℕ) (h : start ≤ at) (k : at ≡ length input) (so_far : Goes_on input out start line at) where
+module _ (input out : List ℕ) (start line at : ℕ) (h : start ≤ at) (k : at ≡ length input) (so_far : GoesOn input out start line at) where
   pub ends_line : (out' : List ℕ) → start < length input → out' ≡ out ++ line_drawn (read_to input start (length input)) start line → out' ≡ input_drawn input
   ends_line out' l w =
       let n = length_read input start (length input) (omega arith) (omega arith) in
       w ∙ ap (λ r. out ++ r) (sym (rest_end (read_to input start (length input)) start line (omega arith)))
       ∙ ap (λ t. out ++ rest_drawn (read_to input start (length input)) start line t) (sym (drop_all (length input) input (omega arith)))
-      ∙ subst (λ n. Goes_on input out start line n) k so_far
+      ∙ subst (λ n. GoesOn input out start line n) k so_far
 
   pub ends_none : length input ≤ start → out ≡ input_drawn input
   ends_none l =

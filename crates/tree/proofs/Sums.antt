@@ -41,10 +41,10 @@ unfolding keep
 kept_passes f d [] i h = absurd (omega arith)
 kept_passes f d (x ∷ xs) i h = one_more f d x (keep f xs) (f x) refl (kept_passes f d xs) i h
 
-get_d_map : (ms : List Move) (i : ℕ) (d : Move) → get_or (map plain ms) i (plain d) ≡ plain (get_or ms i d)
-get_d_map [] i d = refl
-get_d_map (m ∷ ms) zero d = refl
-get_d_map (m ∷ ms) (suc i) d = get_d_map ms i d
+plain_at : (ms : List Move) (i : ℕ) (d : Move) → get_or (map plain ms) i (plain d) ≡ plain (get_or ms i d)
+plain_at [] i d = refl
+plain_at (m ∷ ms) zero d = refl
+plain_at (m ∷ ms) (suc i) d = plain_at ms i d
 
 length_map : (ms : List Move) → length (map plain ms) ≡ length ms
 length_map [] = refl
@@ -55,7 +55,7 @@ unfolding legal_moves
 listed_legal p ms i d e h =
     let l = length_map ms in
     let n = ap length e in
-    subst (λ (m : rules.Move). legal p m ≡ true) (ap (λ (ls : List rules.Move). get_or ls i (plain d)) (sym e) ∙ get_d_map ms i d)
+    subst (λ (m : rules.Move). legal p m ≡ true) (ap (λ (ls : List rules.Move). get_or ls i (plain d)) (sym e) ∙ plain_at ms i d)
     (kept_passes (legal p) (plain d) _ i (omega arith))
 
 -- one move more, counted up to a most
