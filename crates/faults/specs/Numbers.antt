@@ -1,5 +1,5 @@
 -- The number of every fault, and the layer of every number.
-use Rattle.std.specs.Prelude.{ℕ, cond, ltb}
+use Rattle.std.specs.Prelude.{ℕ, cond, nat_lt}
 use Rattle.faults.specs.declared.TextFault.{TextFault}
 use Rattle.faults.specs.declared.TextFault.TheVariants.{TooLong, NoToken, OpenBrace, TagPair, Ended}
 use Rattle.faults.specs.declared.NotationFault.{NotationFault}
@@ -53,4 +53,4 @@ sheet_number (InLaws cause) = laws_number cause
 
 -- the tens of a number tell its layer, and everything from 40 on is the sheet's
 abbrev pub layer_of : ℕ → ℕ
-layer_of n = cond (ltb n 20) 1 (cond (ltb n 30) 2 (cond (ltb n 40) 3 4))
+layer_of n = cond (nat_lt n 20) 1 (cond (nat_lt n 30) 2 (cond (nat_lt n 40) 3 4))

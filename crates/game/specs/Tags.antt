@@ -1,5 +1,5 @@
 -- The heading of a game: its tags and its start.
-use Rattle.std.specs.Prelude.{ℕ, Bool, true, false, cond, not, ◌&&◌, ◌||◌, leb, List, [], ◌∷◌, length, get_or, replicate, Some, None, Ok, Err, codes as bytes, Option, ◌==◌, nat_le, nat_lt, slice_index_or, slice_set}
+use Rattle.std.specs.Prelude.{ℕ, Bool, true, false, cond, not, ◌&&◌, ◌||◌, List, [], ◌∷◌, length, get_or, replicate, Some, None, Ok, Err, codes as bytes, Option, ◌==◌, nat_le, nat_lt, slice_index_or, slice_set}
 use Rattle.board.specs.Below.{least_below}
 use Rattle.faults.specs.declared.NotationFault.TheVariants.{TagName, TagValue}
 use Rattle.faults.specs.declared.LawsFault.TheVariants.{InNotation}
@@ -69,7 +69,7 @@ abbrev pub given_twice : List ℕ → Heading → Bool
 given_twice n h = elim (roster_place n) [ Some i ↦ get_or h.given i false | None ↦ is_tagged n h.game.tags ]
 
 abbrev pub no_room : List ℕ → Heading → Bool
-no_room n h = elim (roster_place n) [ Some i ↦ false | None ↦ leb most_tags (length h.game.tags) ]
+no_room n h = elim (roster_place n) [ Some i ↦ false | None ↦ nat_le most_tags (length h.game.tags) ]
 
 -- what refuses a call: its first case that holds
 unfoldable pub entry_refusal : Entry → Heading → Option SheetFault

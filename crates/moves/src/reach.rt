@@ -1,7 +1,7 @@
 //! How far the piece on a square reaches.
 ghost use Rattle.std.specs.Prelude.{◌≡◌, ◌<◌, ◌≤◌, Decides, ◌≢◌};
 ghost use Rattle.board.specs.Attack.{attacks_from, pawn_attack};
-ghost use Rattle.board.specs.Geometry.{near as one_Apart, far as two_apart, knight_step, king_step};
+ghost use Rattle.board.specs.Geometry.{near as one_apart, far as two_apart, knight_step, king_step};
 ghost use Rattle.board.specs.Rule.{Line, On, gap as distance};
 ghost use Rattle.moves.specs.Path.{Free, Slides, line_step};
 
@@ -11,7 +11,7 @@ use board::side::Side;
 // Whether two files, or two ranks, are one apart; two apart.
 fn near(a: usize, b: usize) -> bool
     requires { (a < 64) × (b < 64) }
-    ensures { result ≡ one_Apart a b }
+    ensures { result ≡ one_apart a b }
 {
     let up = a + 1 == b;
     let down = b + 1 == a;

@@ -23,10 +23,10 @@ fen_parts t =
     then (read_ranks 8 [] t) (λ codes t.
     then (behind 32 (read_side t)) (λ side t.
     then (behind 32 (read_rights t)) (λ rights t.
-    then (behind 32 (read_en_passant t)) (λ en-passant t.
+    then (behind 32 (read_en_passant t)) (λ en_passant t.
     then (behind 32 (read_number t)) (λ clock t.
     then (read_number t) (λ number t.
-    at_end (record { codes = codes; side = side; rights = rights; en_passant = en-passant; clock = clock; number = number }) t))))))
+    at_end (record { codes = codes; side = side; rights = rights; en_passant = en_passant; clock = clock; number = number }) t))))))
 
 -- each position's FEN reads back as that position
 abbrev pub ReadsBack : Parts → Type 0

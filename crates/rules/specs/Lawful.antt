@@ -1,5 +1,5 @@
 -- The laws of a position.
-use Rattle.std.specs.Prelude.{ℕ, ◌+◌, ◌-◌, Bool, true, cond, not, ◌&&◌, ◌||◌, leb, List, [], ◌∷◌, length, Some, None, Ok, Err, Option, Result, ◌==◌, nat_le, slice_index}
+use Rattle.std.specs.Prelude.{ℕ, ◌+◌, ◌-◌, Bool, true, cond, not, ◌&&◌, ◌||◌, List, [], ◌∷◌, length, Some, None, Ok, Err, Option, Result, ◌==◌, nat_le, slice_index}
 use Rattle.board.specs.declared.side.Side.{Side}
 use Rattle.board.specs.declared.side.Side.TheVariants.{White, Black}
 use Rattle.board.specs.declared.piece.Kind.TheVariants.{Pawn, Rook, King}
@@ -15,7 +15,7 @@ use Rattle.rules.specs.Parts.{Parts}
 
 -- 64 codes, none above 12
 unfoldable pub is_board : List ℕ → Bool
-is_board codes = length codes == 64 && all_below 64 (λ s. leb (slice_index codes s) 12)
+is_board codes = length codes == 64 && all_below 64 (λ s. nat_le (slice_index codes s) 12)
 
 -- how many squares hold a code
 unfoldable pub count : ℕ → List ℕ → ℕ

@@ -40,8 +40,8 @@ pawn_advance codes side from to =
 
 -- a pawn captures diagonally ahead: an enemy's piece, or a pawn en passant
 unfoldable pub pawn_capture : List ℕ → Side → Option ℕ → ℕ → ℕ → Bool
-pawn_capture codes side en-passant from to =
-    pawn_attack side from to && (of_side (other side) (slice_index codes to) || is_square en-passant to)
+pawn_capture codes side en_passant from to =
+    pawn_attack side from to && (of_side (other side) (slice_index codes to) || is_square en_passant to)
 
 -- a pawn promotes, to a knight, bishop, rook or queen, exactly on the last rank
 abbrev pub promotes : Side → Move → Bool
