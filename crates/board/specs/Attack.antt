@@ -1,7 +1,8 @@
 -- Which squares a piece attacks, on a list of 64 codes.
-use Rattle.std.specs.Prelude.{ℕ, ◌+◌, ◌%◌, Bool, cond, not, ◌&&◌, ◌||◌, List, ◌==◌, nat_lt, slice_index}
+use Rattle.std.specs.Prelude.{ℕ, ◌+◌, ◌%◌, Bool, false, cond, not, ◌&&◌, ◌||◌, List, ◌==◌, nat_lt, slice_index}
 use Rattle.board.specs.declared.side.Side.{Side}
 use Rattle.board.specs.declared.side.Side.TheVariants.{White, Black}
+use Rattle.board.specs.declared.piece.Kind.{Kind}
 use Rattle.board.specs.declared.piece.Kind.TheVariants.{Pawn, Knight, Bishop, Rook, Queen, King}
 use Rattle.board.specs.Below.{some_below, all_below, ◌and_then◌}
 use Rattle.board.specs.Geometry.{file, rank, direction, beyond, near, knight_step, king_step}
@@ -11,6 +12,15 @@ use Rattle.board.specs.Piece.{other, code, holds}
 unfoldable pub pawn_attack : Side → ℕ → ℕ → Bool
 pawn_attack White s t = rank s + 1 == rank t && near (file s) (file t)
 pawn_attack Black s t = rank t + 1 == rank s && near (file s) (file t)
+
+-- a piece of a kind that takes steps, of the side, attacks t from s; a line piece takes none
+abbrev pub step : Side → Kind → ℕ → ℕ → Bool
+step side Pawn s t = pawn_attack side s t
+step side Knight s t = knight_step s t
+step side Bishop s t = false
+step side Rook s t = false
+step side Queen s t = false
+step side King s t = king_step s t
 
 -- a code is a piece of the side that moves along direction d: a queen along each, a rook along ranks and files, a bishop along diagonals
 unfoldable pub slides : Side → ℕ → ℕ → Bool

@@ -13,6 +13,7 @@ pub mod check;
 pub mod picture;
 pub mod piece;
 pub mod side;
+pub mod square;
 
 /// A board of any make.
 pub trait Board {

@@ -1,7 +1,7 @@
 -- The parts that a setup of the code holds.
 use Rattle.std.specs.Prelude.{ℕ}
 use Rattle.std.specs.Option.{option_map}
-use Rattle.laws.specs.declared.square.Square.{Square}
+use Rattle.board.specs.declared.square.Square.{Square}
 use Rattle.laws.specs.declared.setup.Setup.{Setup}
 use Rattle.rules.specs.Parts.{Parts}
 

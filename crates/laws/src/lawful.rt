@@ -6,7 +6,7 @@ ghost use Rattle.rules.specs.Lawful.{is_board, count as counted, one_king_each, 
 ghost use Rattle.laws.specs.Setup.{parts, square_number};
 
 use crate::setup::Setup;
-use crate::square::Square;
+use board::square::Square;
 use board::Board;
 use board::check::in_check;
 use board::picture::{picture, show};

@@ -4,4 +4,3 @@
 mod lawful;
 pub mod position;
 pub mod setup;
-pub mod square;

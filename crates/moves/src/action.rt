@@ -4,7 +4,7 @@ ghost use Rattle.std.specs.Option.{option_map};
 ghost use Rattle.rules.specs.Move.{move_number, numbered_move};
 ghost use Rattle.moves.specs.Action.{plain, promotion_number, is_promotion_number, is_move_number};
 
-use laws::square::Square;
+use board::square::Square;
 
 /// What a pawn becomes on the last rank.
 #[derive(Clone, Copy, PartialEq, Eq, Debug)]
@@ -16,7 +16,7 @@ pub enum Promotion {
 }
 
 /// A move: the squares that a piece leaves and reaches, and what it promotes to. Castling is the king's move by two files.
-#[derive(Clone, Copy)]
+#[derive(Clone, Copy, PartialEq, Eq, Debug)]
 pub struct Move {
     pub from: Square,
     pub to: Square,

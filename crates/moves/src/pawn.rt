@@ -9,7 +9,7 @@ use crate::action::{Move, promoted};
 use crate::reach::pawn_reaches;
 use crate::squares::{code_on, end_rank, first_rank, is_crossed, is_own, one_ahead};
 use board::side::Side;
-use laws::square::Square;
+use board::square::Square;
 
 // Whether a pawn goes one square ahead, or two from its first rank, over empty squares.
 pub(crate) fn advances(codes: &[u8; 64], side: Side, from: usize, to: usize) -> bool

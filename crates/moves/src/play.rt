@@ -12,7 +12,7 @@ use crate::squares::{code_on, king_square, kingside_rook, one_ahead, queenside_r
 use board::piece::{Kind, code};
 use board::side::Side;
 use laws::setup::Setup;
-use laws::square::Square;
+use board::square::Square;
 use rules::rights::{Castling, Rights};
 
 // The code of a side's piece whose kind has a number.

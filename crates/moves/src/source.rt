@@ -15,7 +15,7 @@ use board::Board;
 use board::piece::{Kind, code};
 use laws::position::Position;
 use laws::setup::Setup;
-use laws::square::Square;
+use board::square::Square;
 
 // Whether a piece of a kind goes legally from a square to a target; the board is left as it was.
 fn is_source<B: Board>(

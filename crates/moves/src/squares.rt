@@ -7,7 +7,7 @@ ghost use Rattle.rules.specs.Move.{is_square};
 ghost use Rattle.laws.specs.Setup.{square_number};
 
 use board::side::Side;
-use laws::square::Square;
+use board::square::Square;
 
 // Whether a code is a piece of the side.
 pub(crate) fn is_own(side: Side, code: u8) -> bool

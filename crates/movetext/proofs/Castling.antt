@@ -4,8 +4,8 @@ use Rattle.std.proofs.lemmas.Slice.Eq.{text_from_reads}
 use Rattle.san.specs.Said.{Said, castling, going}
 use Rattle.san.specs.Text.{same_bytes, is_check_mark, without_first, read_promotion, read_castling, read_text, CheckMark, Spells, piece, kingside, queenside}
 use Rattle.san.proofs.Sans.{reads_spelling}
-use Rattle.movetext.specs.declared.text.Wing.{Wing}
-use Rattle.movetext.specs.declared.text.Wing.TheVariants.{Kingside, Queenside}
+use Rattle.rules.specs.declared.rights.Wing.{Wing}
+use Rattle.rules.specs.declared.rights.Wing.TheVariants.{Kingside, Queenside}
 use Rattle.movetext.specs.Said.{is_queenside}
 use Rattle.movetext.specs.Castling.{ReadsAt, Ends, Ended, Castles}
 use Rattle.movetext.proofs.Reading.{no_bytes, piece_none}

@@ -1,7 +1,7 @@
 -- The castling texts, by their bytes.
 use Rattle.std.specs.Prelude.{◌≡◌, ℕ, suc, ◌≤◌, ◌⊎◌, List, [], ◌∷◌, length, drop, codes as bytes, slice_index}
-use Rattle.movetext.specs.declared.text.Wing.{Wing}
-use Rattle.movetext.specs.declared.text.Wing.TheVariants.{Kingside, Queenside}
+use Rattle.rules.specs.declared.rights.Wing.{Wing}
+use Rattle.rules.specs.declared.rights.Wing.TheVariants.{Kingside, Queenside}
 
 -- the bytes of p stand in s from index i on
 abbrev pub ReadsAt : List ℕ → ℕ → List ℕ → Type 0

@@ -5,8 +5,8 @@ use Rattle.board.specs.Piece.{number}
 use Rattle.faults.specs.declared.NotationFault.{NotationFault}
 use Rattle.moves.specs.Action.{promotion_number}
 use Rattle.san.specs.Said.{Said, castling, going}
-use Rattle.movetext.specs.declared.text.Wing.{Wing}
-use Rattle.movetext.specs.declared.text.Wing.TheVariants.{Kingside, Queenside}
+use Rattle.rules.specs.declared.rights.Wing.{Wing}
+use Rattle.rules.specs.declared.rights.Wing.TheVariants.{Kingside, Queenside}
 use Rattle.movetext.specs.declared.text.PieceText.{PieceText}
 use Rattle.movetext.specs.declared.text.MoveText.{MoveText}
 use Rattle.movetext.specs.declared.text.MoveText.TheVariants.{Castling, Piece}

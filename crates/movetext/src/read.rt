@@ -7,11 +7,12 @@ ghost use Rattle.san.specs.Text.{is_file as names_file, is_rank as names_rank, i
 ghost use Rattle.movetext.specs.Castling.{Castles, Ends};
 ghost use Rattle.movetext.specs.Said.{piece_said, read_said, kind_number};
 
-use crate::text::{MoveText, PieceText, Wing};
+use crate::text::{MoveText, PieceText};
 use board::piece::Kind;
 use faults::NotationFault;
-use laws::square::Square;
+use board::square::Square;
 use moves::action::Promotion;
+use rules::rights::Wing;
 
 // What stands before a text's last byte, and that byte.
 fn last(text: &[u8]) -> Option<(&[u8], u8)>

@@ -1,17 +1,11 @@
 //! What a move text says.
 use board::piece::Kind;
-use laws::square::Square;
+use board::square::Square;
 use moves::action::Promotion;
-
-/// The side of the board to which a king castles.
-#[derive(Clone, Copy, PartialEq, Eq, Debug)]
-pub enum Wing {
-    Kingside,
-    Queenside,
-}
+use rules::rights::Wing;
 
 /// The move of a piece: its kind, the origin file and rank where they are given, both counted from 0, its target and promotion.
-#[derive(Clone, Copy)]
+#[derive(Clone, Copy, PartialEq, Eq, Debug)]
 pub struct PieceText {
     pub kind: Kind,
     pub file: Option<u8>,
@@ -21,7 +15,7 @@ pub struct PieceText {
 }
 
 /// What a move text says: castling, or the move of a piece.
-#[derive(Clone, Copy)]
+#[derive(Clone, Copy, PartialEq, Eq, Debug)]
 pub enum MoveText {
     Castling(Wing),
     Piece(PieceText),

@@ -6,7 +6,7 @@ use Rattle.faults.specs.declared.SheetFault.TheVariants.{BufferShort}
 use Rattle.rules.specs.declared.breach.Breach.{Breach}
 use Rattle.rules.specs.declared.breach.Breach.TheVariants.{Counters}
 use Rattle.laws.specs.declared.position.Position.{Position}
-use Rattle.laws.specs.declared.square.Square.{Square}
+use Rattle.board.specs.declared.square.Square.{Square}
 use Rattle.rules.specs.Lawful.{counters_stand, laws, all_hold, lawful}
 use Rattle.rules.specs.Parts.{Parts}
 use Rattle.laws.specs.Position.{position_parts}

@@ -6,7 +6,7 @@ ghost use Rattle.notation.specs.Reader.{past as behind_byte, behind, rest_of};
 ghost use Rattle.notation.specs.Fields.{no_right, read_side, read_right, read_castling, read_rights, read_eighth, read_square, read_en_passant};
 
 use board::side::Side;
-use laws::square::Square;
+use board::square::Square;
 use rules::rights::{Castling, Rights};
 
 /// The place behind a byte that must stand at a place.

@@ -14,7 +14,7 @@ use crate::fen::placement::rank_end;
 use board::piece;
 use board::side::Side;
 use laws::setup::Setup;
-use laws::square::Square;
+use board::square::Square;
 use rules::rights::Rights;
 
 /// A digit for so many empty squares in a row, if there are any.

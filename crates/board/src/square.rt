@@ -1,9 +1,10 @@
 //! A square of the board.
 ghost use Rattle.std.specs.Prelude.{◌≡◌, ◌<◌, if◌then◌else◌, Some, None, nat_lt};
 ghost use Rattle.std.specs.Option.{option_map};
+ghost use Rattle.board.specs.Geometry.{file as file_of, rank as rank_of};
 
 /// A square's number, 8 × (rank − 1) + file, which is below 64.
-#[derive(Clone, Copy)]
+#[derive(Clone, Copy, PartialEq, Eq, Debug)]
 pub struct Square {
     number: u8,
     ghost on_board: { number < 64 },
@@ -26,5 +27,28 @@ impl Square {
         ensures { result ≡ self.number }
     {
         self.number
+    }
+
+    /// The square's place in a list of 64.
+    pub fn index(self) -> usize
+        ensures { result ≡ self.number }
+    {
+        usize::from(self.number)
+    }
+
+    /// The file of the square, counted from 0.
+    pub fn file(self) -> u8
+        ensures { result ≡ file_of self.number }
+    {
+        let Square { number } = self;
+        number % 8
+    }
+
+    /// The rank of the square, counted from 0.
+    pub fn rank(self) -> u8
+        ensures { result ≡ rank_of self.number }
+    {
+        let Square { number } = self;
+        number / 8
     }
 }
