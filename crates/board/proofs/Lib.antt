@@ -4,3 +4,4 @@ pub mod HitLaws
 pub mod PutLaws
 pub mod NextLaws
 pub mod RuleLaws
+pub mod ChainLaws

@@ -4,11 +4,11 @@ use Rattle.std.proofs.lemmas.Bool.{cases_lt, cases_eq, or_cases, or_left, or_rig
 use Rattle.std.proofs.lemmas.Bool.Decides.{nat_tests, Decides-like}
 use Rattle.board.specs.declared.side.Side.{Side}
 use Rattle.board.specs.declared.side.Side.TheVariants.{White, Black}
-use Rattle.board.specs.declared.piece.Kind.TheVariants.{Bishop, Rook, Queen, King}
+use Rattle.board.specs.declared.piece.Kind.TheVariants.{King}
 use Rattle.board.specs.Geometry.{Direction, East, NorthWest, North, NorthEast, West, SouthEast, South, SouthWest, direction, beyond, file, rank, knight_step, king_step}
 use Rattle.board.specs.Piece.{other, code}
 use Rattle.board.specs.Attack.{pawn_attack, slides, attacks_from, attacks, in_check}
-use Rattle.board.specs.Rule.{Line, Rank, File, Diagonal, On, files, ranks, StrictlyBetween, Reaches, OneAhead, Attacks, pawn, knight, bishop, rook, queen, king, InCheck}
+use Rattle.board.specs.Rule.{Line, Mover, Rank, File, Diagonal, On, files, ranks, StrictlyBetween, Reaches, OneAhead, Attacks, pawn, knight, bishop, rook, queen, king, InCheck}
 use Rattle.board.proofs.AttackLaws.{Along, From, decides_from, decides_attacks, decides_check}
 
 -- the line of a direction
@@ -101,11 +101,6 @@ lies Diagonal t s ne on =
     (cases_eq (rank s) (rank t))
 
 -- which pieces move along a direction
-abbrev pub Mover : Side → Line → ℕ → Type 0
-Mover side Rank c = (c ≡ code side Queen) ⊎ (c ≡ code side Rook)
-Mover side File c = (c ≡ code side Queen) ⊎ (c ≡ code side Rook)
-Mover side Diagonal c = (c ≡ code side Queen) ⊎ (c ≡ code side Bishop)
-
 either : (c x y : ℕ) → Decides (eqb c x || eqb c y) ((c ≡ x) ⊎ (c ≡ y))
 either c x y = (
   λ h. ⊎_elim (λ (e : eqb c x ≡ true). inl (eqb-true c x e)) (λ (e : eqb c y ≡ true). inr (eqb-true c y e)) (or_cases (eqb c x) (eqb c y) h),

@@ -34,6 +34,12 @@ abbrev pub Reaches : Line → List ℕ → ℕ → ℕ → Type 0
 Reaches line codes s t =
     (s ≢ t) × On line s t × ((u : ℕ) → u < 64 → On line s u → On line u t → StrictlyBetween s u t → slice_index codes u ≡ 0)
 
+-- a line piece of the side that moves along a line: a queen along each, a rook along ranks and files, a bishop along diagonals
+abbrev pub Mover : Side → Line → ℕ → Type 0
+Mover side Rank c = (c ≡ code side Queen) ⊎ (c ≡ code side Rook)
+Mover side File c = (c ≡ code side Queen) ⊎ (c ≡ code side Rook)
+Mover side Diagonal c = (c ≡ code side Queen) ⊎ (c ≡ code side Bishop)
+
 -- one rank ahead
 abbrev pub OneAhead : Side → ℕ → ℕ → Type 0
 OneAhead White s t = rank t ≡ rank s + 1

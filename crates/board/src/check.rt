@@ -1,5 +1,5 @@
 //! Questions about attacks and check, on any board.
-ghost use Rattle.std.specs.Prelude.{◌≡◌, Decides};
+ghost use Rattle.std.specs.Prelude.{◌≡◌, ◌↔◌, IsTrue};
 ghost use Rattle.board.specs.Attack.{attacks, in_check};
 ghost use Rattle.board.specs.Meaning.{put_list};
 ghost use Rattle.board.specs.Rule.{InCheck};
@@ -11,10 +11,11 @@ use crate::side::Side;
 /// Whether a side is in check: whether any king of it is attacked.
 pub fn in_check<B: Board>(board: &B, side: Side) -> bool
     ensures answer { result ≡ in_check side (B.codes board.now) }
-    ensures rule { Decides result (InCheck side (B.codes board.now)) }
+    ensures rule { IsTrue result ↔ InCheck side (B.codes board.now) }
 {
     let king = code(side, Kind::King);
     let enemy = side.other();
+    // A loop: a chain of the squares that hold a king would need a bound of its own to end.
     let mut from = 0;
     while let Some(square) = board.next(from, king) {
         if board.attacked(enemy, square) {

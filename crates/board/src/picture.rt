@@ -3,16 +3,13 @@ ghost use Rattle.std.specs.Prelude.{◌≡◌};
 ghost use Rattle.board.specs.Meaning.{Shown, put_below};
 
 use crate::Board;
+use std::array::from_fn;
 
 /// The codes that a board shows.
 pub fn picture<B: Board>(board: &B) -> [u8; 64]
     ensures { result ≡ B.codes board.now }
 {
-    let mut seen = [0; 64];
-    for square in 0..64u8 {
-        seen[square as usize] = board.look(square);
-    }
-    seen
+    from_fn(|square| board.look(square as u8))
 }
 
 /// Puts each code of a picture on its square; what is no code leaves its square as it was.
@@ -20,10 +17,9 @@ pub fn show<B: Board>(board: &mut B, picture: &[u8; 64])
     ensures list { B.codes board.new ≡ put_below 64 (B.codes board.old) picture.now }
     ensures whole { Shown picture.now → B.codes board.new ≡ picture.now }
 {
-    for square in 0..64u8 {
-        let code = picture[square as usize];
-        if board.look(square) != code {
-            board.put(square, code);
+    for (square, &code) in picture.iter().enumerate() {
+        if board.look(square as u8) != code {
+            board.put(square as u8, code);
         }
     }
 }

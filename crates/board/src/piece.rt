@@ -17,7 +17,7 @@ pub enum Kind {
 }
 
 /// The letter of each code: upper case for White, lower case for Black, a period for an empty square.
-const LETTERS: [u8; 13] = [46, 80, 78, 66, 82, 81, 75, 112, 110, 98, 114, 113, 107];
+const LETTERS: [u8; 13] = *b".PNBRQKpnbrqk";
 
 /// The code of a side's piece of a kind.
 pub fn code(side: Side, kind: Kind) -> u8
@@ -48,10 +48,5 @@ pub fn letter(code: u8) -> u8
 pub fn from_letter(byte: u8) -> Option<u8>
     ensures { result ≡ code_of_letter byte }
 {
-    for code in 1..13u8 {
-        if LETTERS[code as usize] == byte {
-            return Some(code);
-        }
-    }
-    None
+    (1..13u8).find(|&code| letter(code) == byte)
 }

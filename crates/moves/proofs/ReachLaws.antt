@@ -7,11 +7,11 @@ use Rattle.board.specs.Below.{some_below}
 use Rattle.board.specs.Geometry.{file, rank, direction}
 use Rattle.board.specs.Piece.{code}
 use Rattle.board.specs.Attack.{attacks_along}
-use Rattle.board.specs.Rule.{Line, Rank, File, Diagonal, On, files, ranks, Reaches}
+use Rattle.board.specs.Rule.{Line, Mover, Rank, File, Diagonal, On, files, ranks, Reaches}
 use Rattle.board.proofs.BelowLaws.{decides_some}
 use Rattle.board.proofs.AttackLaws.{Along, decides_along}
 use Rattle.board.proofs.RuleLaws as rule
-use Rattle.moves.specs.Path.{Free, Mover, Slides}
+use Rattle.moves.specs.Path.{Free, Slides}
 
 abbrev Straight : Side → ℕ → ℕ → ℕ → Type 0
 Straight side c s t = ((rank s ≡ rank t) ⊎ (file s ≡ file t)) × ((c ≡ code side Queen) ⊎ (c ≡ code side Rook))

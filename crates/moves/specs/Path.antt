@@ -1,9 +1,7 @@
 -- The squares of a line between two of it.
-use Rattle.std.specs.Prelude.{◌≡◌, ℕ, ◌/◌, ◌%◌, ◌<◌, cond, ◌⊎◌, List, ◌==◌, ◌≢◌, nat_lt, slice_index}
+use Rattle.std.specs.Prelude.{◌≡◌, ℕ, ◌/◌, ◌%◌, ◌<◌, cond, List, ◌==◌, ◌≢◌, nat_lt, slice_index}
 use Rattle.board.specs.declared.side.Side.{Side}
-use Rattle.board.specs.declared.piece.Kind.TheVariants.{Bishop, Rook, Queen}
-use Rattle.board.specs.Piece.{code}
-use Rattle.board.specs.Rule.{Line, Rank, File, Diagonal, On, StrictlyBetween}
+use Rattle.board.specs.Rule.{Line, On, StrictlyBetween, Mover}
 
 -- every square of the line strictly between s and t is empty
 abbrev pub Free : Line → List ℕ → ℕ → ℕ → Type 0
@@ -13,12 +11,6 @@ Free line codes s t = (u : ℕ) → u < 64 → On line s u → On line u t → S
 abbrev pub line_step : ℕ → ℕ → ℕ
 line_step low high = cond (low / 8 == high / 8) 1 (cond (low % 8 == high % 8) 8 (cond (nat_lt (low % 8) (high % 8)) 9 7))
 
--- a line piece of the side that moves along a line
-abbrev pub Mover : Side → Line → ℕ → Type 0
-Mover side Rank c = (c ≡ code side Queen) ⊎ (c ≡ code side Rook)
-Mover side File c = (c ≡ code side Queen) ⊎ (c ≡ code side Rook)
-Mover side Diagonal c = (c ≡ code side Queen) ⊎ (c ≡ code side Bishop)
-
--- it moves along a line from s to t
+-- a line piece of the side moves along a line from s to t
 abbrev pub Slides : Side → ℕ → ℕ → ℕ → Type 0
 Slides side c s t = (s ≢ t) × ((l : Line) × On l s t × Mover side l c)
