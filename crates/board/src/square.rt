@@ -11,6 +11,13 @@ pub struct Square {
 }
 
 impl Square {
+    pub const A1: Square = Square { number: 0 };
+    pub const E1: Square = Square { number: 4 };
+    pub const H1: Square = Square { number: 7 };
+    pub const A8: Square = Square { number: 56 };
+    pub const E8: Square = Square { number: 60 };
+    pub const H8: Square = Square { number: 63 };
+
     /// The square with a number, or none above 63.
     pub fn new(number: u8) -> Option<Square>
         ensures { option_map (λ s. s.number) result ≡ (if nat_lt number 64 then Some number else None) }

@@ -173,15 +173,11 @@ impl SheetFault {
     pub fn layer(self) -> u8
         ensures { result ≡ layer_of (sheet_number self) }
     {
-        let number = self.number();
-        if number < 20 {
-            1
-        } else if number < 30 {
-            2
-        } else if number < 40 {
-            3
-        } else {
-            4
+        match self.number() {
+            0..=19 => 1,
+            20..=29 => 2,
+            30..=39 => 3,
+            _ => 4,
         }
     }
 }

@@ -1,6 +1,10 @@
 //! The parts of a position, lawful or not.
-use board::square::Square;
+ghost use Rattle.std.specs.Prelude.{◌≡◌, slice_index};
+ghost use Rattle.board.specs.Piece.{holds as stands_on};
+
+use board::piece::{Kind, code};
 use board::side::Side;
+use board::square::Square;
 use rules::rights::Rights;
 
 /// What a FEN text says: 64 codes, the side to move, the castling rights, the en passant square, the halfmove clock and the move number.
@@ -12,4 +16,20 @@ pub struct Setup {
     pub en_passant: Option<Square>,
     pub clock: u16,
     pub number: u16,
+}
+
+impl Setup {
+    /// The code on a square.
+    pub fn code_on(&self, square: Square) -> u8
+        ensures { result ≡ slice_index self.now.codes square.number }
+    {
+        self.codes[square.index()]
+    }
+
+    /// Whether a side's piece of a kind stands on a square.
+    pub fn holds(&self, side: Side, kind: Kind, square: Square) -> bool
+        ensures { result ≡ stands_on self.now.codes side kind square.number }
+    {
+        self.code_on(square) == code(side, kind)
+    }
 }

@@ -1,10 +1,12 @@
 -- The laws of a position, one by one.
-use Rattle.std.proofs.Common.{◌≡◌, ℕ, ◌+◌, ◌<◌, ◌≤◌, Bool, true, false, cond, eqb, leb, ◌⊎◌, List, [], ◌∷◌, ◌++◌, length, get_or, take, None, refl, ap, ◌∙◌, inl, inr, ⊎_elim, arith}
+use Rattle.std.proofs.Common.{◌≡◌, ℕ, zero, suc, ◌+◌, ◌<◌, ◌≤◌, Bool, true, false, cond, eqb, leb, ◌⊎◌, List, [], ◌∷◌, ◌++◌, length, get_or, take, None, refl, ap, ◌∙◌, inl, inr, ⊎_elim, arith}
+use Rattle.std.proofs.lemmas.List.Sums.{sum_by-cons}
 use Rattle.std.proofs.lemmas.List.{take_more, get_or_past}
 use Rattle.std.proofs.lemmas.Bool.{and_parts, and_from, cases_lt, eqb-true, eq-eqb, leb-true, le-leb, both_ways}
 use Rattle.board.specs.Below.{all_below}
 use Rattle.board.specs.Meaning.{Shown}
-use Rattle.board.proofs.BelowLaws.{all_at, all_from}
+use Rattle.board.proofs.BelowLaws.{all_at, all_from, same_tests}
+use Rattle.std.specs.List.{list_all, count_by}
 use Rattle.rules.specs.declared.breach.Breach.{Breach}
 use Rattle.rules.specs.Parts.{Parts}
 use Rattle.rules.specs.Lawful.{is_board, count, laws, first_broken, all_hold, broken, lawful}
@@ -26,6 +28,25 @@ pub shown_board : (codes : List ℕ) → Shown codes → is_board codes ≡ true
 unfolding is_board
 shown_board codes (l, small) = and_from _ _ (eq-eqb _ _ l) (all_from 64 (λ s. leb (get_or codes s 0) 12) (λ s _. le-leb _ _ (small s)))
 
+-- a test of each code
+list_all-all_below : (p : ℕ → Bool) (xs : List ℕ) → list_all p xs ≡ all_below (length xs) (λ k. p (get_or xs k 0))
+list_all-all_below p xs = same_tests _ _
+    (λ h. all_from (length xs) _ (λ k l. at xs h k l))
+    (λ h. from xs (λ k l. all_at (length xs) _ h k l))
+  where
+    at : (ys : List ℕ) → list_all p ys ≡ true → (k : ℕ) → k < length ys → p (get_or ys k 0) ≡ true
+    at [] h k l = absurd (omega arith)
+    at (y ∷ ys) h zero l = (and_parts _ _ h).0
+    at (y ∷ ys) h (suc k) l = at ys (and_parts (p y) _ h).1 k (omega arith)
+
+    from : (ys : List ℕ) → ((k : ℕ) → k < length ys → p (get_or ys k 0) ≡ true) → list_all p ys ≡ true
+    from [] f = refl
+    from (y ∷ ys) f = and_from _ _ (f 0 (omega arith)) (from ys (λ k l. f (suc k) (omega arith)))
+
+pub is_board-list_all : (codes : List ℕ) → length codes ≡ 64 → list_all (λ c. leb c 12) codes ≡ is_board codes
+unfolding is_board
+is_board-list_all codes l = list_all-all_below (λ c. leb c 12) codes ∙ rw l refl
+
 -- a code above 12
 pub not_board : (codes : List ℕ) (s : ℕ) → s < 64 → 12 < get_or codes s 0 → is_board codes ≡ false
 not_board codes s h k = ⊎_elim
@@ -37,19 +58,11 @@ not_board codes s h k = ⊎_elim
     cases true = inl refl
     cases false = inr refl
 
--- counting one square more
-count_append : (c : ℕ) (xs ys : List ℕ) → count c (xs ++ ys) ≡ count c xs + count c ys
+-- our count is std's
+pub count_by-count : (c : ℕ) (xs : List ℕ) → count_by (λ x. eqb x c) xs ≡ count c xs
 unfolding count
-count_append c [] ys = omega arith
-count_append c (x ∷ xs) ys = let h = count_append c xs ys in omega arith
-
-count_one : (c x : ℕ) → count c (x ∷ []) ≡ cond (eqb x c) 1 0
-unfolding count
-count_one c x = omega arith
-
-pub count_more : (c : ℕ) (xs : List ℕ) (i : ℕ) → i < length xs → count c (take (i + 1) xs) ≡ count c (take i xs) + cond (eqb (get_or xs i 0) c) 1 0
-count_more c xs i h =
-    ap (count c) (take_more xs i 0 h) ∙ count_append c (take i xs) (get_or xs i 0 ∷ []) ∙ ap (λ (k : ℕ). count c (take i xs) + k) (count_one c (get_or xs i 0))
+count_by-count c [] = refl
+count_by-count c (x ∷ xs) = sum_by-cons _ x xs ∙ ap (λ (k : ℕ). cond (eqb x c) 1 0 + k) (count_by-count c xs)
 
 -- no law is broken exactly where all hold
 all_or_first : (ls : List (Bool × Breach)) → first_broken ls ≡ None → all_hold ls ≡ true

@@ -4,4 +4,5 @@ pub mod Breach
 pub mod Move
 pub mod After
 pub mod Legal
+pub mod Side
 pub mod Opened

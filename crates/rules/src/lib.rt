@@ -4,6 +4,7 @@
 ghost use Rattle.rules.specs.Legal.{StaysLawful};
 
 pub mod breach;
+pub mod home;
 pub mod rights;
 
 /// A legal move from a lawful position leads to a lawful one.

@@ -5,7 +5,6 @@ ghost use Rattle.rules.specs.Lawful.{judged};
 ghost use Rattle.laws.specs.Position.{position_parts, made_parts};
 ghost use Rattle.laws.specs.Setup.{parts};
 
-use crate::lawful::broken;
 use crate::position::Position;
 use crate::setup::Setup;
 use board::Board;
@@ -27,10 +26,8 @@ impl Position {
         ensures answer { made_parts result ≡ judged (parts setup) }
         ensures list { B.codes board.new ≡ B.codes board.old }
     {
-        match broken(board, &setup) {
-            Some(law) => Err(law),
-            None => Ok(Position { setup }),
-        }
+        setup.obey(board)?;
+        Ok(Position { setup })
     }
 
     /// Shows the position on a board.
