@@ -1,7 +1,7 @@
 //! Pieces as codes and as letters.
 //! Code 0 is an empty square; 1 to 6 are the white pawn, knight, bishop, rook, queen and king, 7 to 12 the black.
-ghost use Rattle.std.specs.Prelude.{◌≡◌};
-ghost use Rattle.board.specs.Piece.{code as coded, letter as lettered, code_of_letter};
+ghost use Rattle.std.specs.Prelude.{◌≡◌, ◌≤◌};
+ghost use Rattle.board.specs.Piece.{number as number_of, code as coded, letter as lettered, code_of_letter};
 
 use crate::side::Side;
 
@@ -19,21 +19,30 @@ pub enum Kind {
 /// The letter of each code: upper case for White, lower case for Black, a period for an empty square.
 const LETTERS: [u8; 13] = *b".PNBRQKpnbrqk";
 
+impl Kind {
+    /// The number of the kind, which is the code of the white piece.
+    pub fn number(self) -> u8
+        ensures number { result ≡ number_of self }
+        ensures most { result ≤ 6 }
+    {
+        match self {
+            Kind::Pawn => 1,
+            Kind::Knight => 2,
+            Kind::Bishop => 3,
+            Kind::Rook => 4,
+            Kind::Queen => 5,
+            Kind::King => 6,
+        }
+    }
+}
+
 /// The code of a side's piece of a kind.
 pub fn code(side: Side, kind: Kind) -> u8
     ensures { result ≡ coded side kind }
 {
-    let number = match kind {
-        Kind::Pawn => 1,
-        Kind::Knight => 2,
-        Kind::Bishop => 3,
-        Kind::Rook => 4,
-        Kind::Queen => 5,
-        Kind::King => 6,
-    };
     match side {
-        Side::White => number,
-        Side::Black => number + 6,
+        Side::White => kind.number(),
+        Side::Black => kind.number() + 6,
     }
 }
 

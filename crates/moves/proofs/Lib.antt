@@ -1,9 +1,6 @@
 mod ChangeLaws
 mod ActionLaws
-mod SourceLaws
 mod TrialLaws
 mod PlayLaws
-mod WayLaws
-mod BoolLaws
 mod PathLaws
 mod ReachLaws

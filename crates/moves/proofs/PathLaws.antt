@@ -1,5 +1,5 @@
 -- The squares strictly between two of a line are those that steps along it come to.
-use Rattle.std.proofs.Common.{◌≡◌, ℕ, ◌+◌, ◌-◌, ◌*◌, ◌/◌, ◌%◌, ◌<◌, ◌≤◌, min, max, ◌⊎◌, List, get_or, sym, ◌∙◌, subst, subst₂, inl, inr, ⊎_elim, mul-le-mul_left, mul-one, mul-add, arith}
+use Rattle.std.proofs.Common.{ap, ◌≡◌, ℕ, ◌+◌, ◌-◌, ◌*◌, ◌/◌, ◌%◌, ◌<◌, ◌≤◌, ◌⊎◌, List, get_or, sym, ◌∙◌, subst, inl, inr, ⊎_elim, mul-le-mul_left, mul-one, mul-add, arith}
 use Rattle.std.proofs.lemmas.Bool.{cases_lt, cases_eq, cond-true, cond-false, eq-eqb, ne_eqb, lt-ltb, le-ltb}
 use Rattle.board.specs.Geometry.{file, rank}
 use Rattle.board.specs.Rule.{Line, Rank, File, Diagonal, On, StrictlyBetween}
@@ -107,53 +107,7 @@ module _ (low high : ℕ) (l : low < high) (h : high < 64) where
 pub free_turned : (l : Line) (codes : List ℕ) (s t : ℕ) → Free l codes s t → Free l codes t s
 free_turned l codes s t f u h a b c = f u h (on_turned l u s b) (on_turned l t u a) (between_turned t u s c)
 
--- the first j squares that steps from low come to are empty
-abbrev Emptied : List ℕ → ℕ → ℕ → Type 0
-Emptied codes low high = (j : ℕ) → 0 < j → low + line_step low high * j < high → get_or codes (low + line_step low high * j) 0 ≡ 0
-
-rising_open : (l : Line) (codes : List ℕ) (s t : ℕ) → s < t → t < 64 → On l s t → Emptied codes s t → Free l codes s t
-rising_open l codes s t p h on f u hu a b c =
-    let k = steps_back s t p h l on u (a, b, c) in
-    subst (λ (x : ℕ). get_or codes x 0 ≡ 0) (sym k.2) (f k.0 k.1 (subst (λ (x : ℕ). x < t) k.2 k.3))
-
-rising_shut : (l : Line) (codes : List ℕ) (s t j : ℕ) → s < t → t < 64 → On l s t → 0 < j → s + line_step s t * j < t → Free l codes s t
-    → get_or codes (s + line_step s t * j) 0 ≡ 0
-rising_shut l codes s t j p h on q r f = let k = steps_there s t p h l on j q r in f (s + line_step s t * j) (omega arith) k.0 k.1 k.2
-
--- what a walk from the lower square to the higher finds
-module _ (codes : List ℕ) (from to : ℕ) (hf : from < 64) (ht : to < 64) (l : Line) (ne : from ≡ to → ⊥) (on : On l from to) where
-  min_low : from < to → min from to ≡ from
-  min_low h = omega arith
-
-  min_high : to < from → min from to ≡ to
-  min_high h = omega arith
-
-  max_low : from < to → max from to ≡ to
-  max_low h = omega arith
-
-  max_high : to < from → max from to ≡ from
-  max_high h = omega arith
-
-  either : (from < to) ⊎ (to < from)
-  either = ⊎_elim (λ (h : from < to). inl h) (λ (h : to ≤ from). inr (omega arith)) (cases_lt from to)
-
-  pub walk_open : Emptied codes (min from to) (max from to) → Free l codes from to
-  walk_open f = ⊎_elim
-      (λ (h : from < to). rising_open l codes from to h ht on (rw (min_low h, max_low h) at f))
-      (λ (h : to < from). free_turned l codes to from (rising_open l codes to from h hf (on_turned l from to on) (rw (min_high h, max_high h) at f)))
-      either
-
-  abbrev place : ℕ → ℕ → ℕ → ℕ
-  place low high j = low + line_step low high * j
-
-  pub walk_shut : (j : ℕ) → 0 < j → place (min from to) (max from to) j < max from to → Free l codes from to
-      → get_or codes (place (min from to) (max from to) j) 0 ≡ 0
-  walk_shut j q = ⊎_elim
-      (λ (h : from < to). rw (min_low h, max_low h) (λ r f. rising_shut l codes from to j h ht on q r f))
-      (λ (h : to < from). rw (min_high h, max_high h) (λ r f. rising_shut l codes to from j h hf (on_turned l from to on) q r (free_turned l codes from to f)))
-      either
-
--- one turn of the walk
+-- one turn of the walk from the lower square to the higher
 pub walk_on : (low step at k : ℕ) → at ≡ low + step * (k + 1) → at + step ≡ low + step * (k + 1 + 1)
 walk_on low step at k e = let m = mul-add step (k + 1) 1 in let o = mul-one step in omega arith
 
@@ -165,19 +119,23 @@ walk_emptied codes low step at k e z f j p q = ⊎_elim
     (cases_eq j (k + 1))
 
 -- a walk that stops at a piece, and one that comes to its end
-module _ (codes : List ℕ) (from to low high step at k : ℕ) (hf : from < 64) (ht : to < 64) (el : low ≡ min from to) (eh : high ≡ max from to)
-    (es : step ≡ line_step low high) (ea : at ≡ low + step * (k + 1)) (l : Line) (ne : from ≡ to → ⊥) (on : On l from to) where
-  same_place : (j : ℕ) → low + step * j ≡ min from to + line_step (min from to) (max from to) * j
-  same_place j = rw (es, el, eh)
+module _ (codes : List ℕ) (low high step at k : ℕ) (rises : low < high) (inside : high < 64) (es : step ≡ line_step low high) (ea : at ≡ low + step * (k + 1))
+    (l : Line) (on : On l low high) where
+  same_place : (j : ℕ) → low + step * j ≡ low + line_step low high * j
+  same_place j = ap (λ (x : ℕ). low + x * j) es
 
-  pub walk_stopped : at < high → (get_or codes at 0 ≡ 0 → ⊥) → Free l codes from to → ⊥
+  pub walk_stopped : at < high → (get_or codes at 0 ≡ 0 → ⊥) → Free l codes low high → ⊥
   walk_stopped h z f =
       let e = ea ∙ same_place (k + 1) in
-      z (subst (λ (x : ℕ). get_or codes x 0 ≡ 0) (sym e) (walk_shut codes from to hf ht l ne on (k + 1) (omega arith) (subst₂ (λ (x y : ℕ). x < y) e eh h) f))
+      let b = subst (λ (x : ℕ). x < high) e h in
+      let t = steps_there low high rises inside l on (k + 1) (omega arith) b in
+      z (subst (λ (x : ℕ). get_or codes x 0 ≡ 0) (sym e) (f (low + line_step low high * (k + 1)) (omega arith) t.0 t.1 t.2))
 
-  pub walk_ended : high ≤ at → ((j : ℕ) → 0 < j → j ≤ k → get_or codes (low + step * j) 0 ≡ 0) → Free l codes from to
-  walk_ended h f = walk_open codes from to hf ht l ne on (λ j p q.
-      subst (λ (x : ℕ). get_or codes x 0 ≡ 0) (same_place j) (⊎_elim
-      (λ (b : j < k + 1). f j p (omega arith))
-      (λ (b : k + 1 ≤ j). absurd (let m = mul-le-mul_left step b in let r = same_place j in omega arith))
-      (cases_lt j (k + 1))))
+  pub walk_ended : high ≤ at → ((j : ℕ) → 0 < j → j ≤ k → get_or codes (low + step * j) 0 ≡ 0) → Free l codes low high
+  walk_ended h f u hu a b c =
+      let t = steps_back low high rises inside l on u (a, b, c) in
+      let e : low + step * t.0 ≡ low + line_step low high * t.0 = same_place t.0 in
+      subst (λ (x : ℕ). get_or codes x 0 ≡ 0) (e ∙ sym t.2) (⊎_elim
+      (λ (i : t.0 < k + 1). f t.0 t.1 (omega arith))
+      (λ (i : k + 1 ≤ t.0). absurd (let m = mul-le-mul_left step i in omega (arith, t.2, t.3)))
+      (cases_lt t.0 (k + 1)))

@@ -1,45 +1,15 @@
 -- What a piece attacks, by the line that it moves along.
-use Rattle.std.proofs.Common.{◌≡◌, ℕ, Bool, true, false, not, ◌&&◌, ◌||◌, eqb, ◌⊎◌, List, get_or, Decides, refl, inl, inr}
-use Rattle.std.proofs.lemmas.Bool.Decides.{Decides-like, Decides-and, Decides-or, Decides-eqb, Decides-not, same_from_decides}
+use Rattle.std.proofs.Common.{◌≡◌, ℕ, Bool, true, false, List, get_or, Decides, refl}
+use Rattle.std.proofs.lemmas.Bool.Decides.{Decides-like, same_from_decides}
 use Rattle.board.specs.declared.side.Side.{Side}
-use Rattle.board.specs.declared.piece.Kind.TheVariants.{Bishop, Rook, Queen}
 use Rattle.board.specs.Below.{some_below}
-use Rattle.board.specs.Geometry.{file, rank, direction}
-use Rattle.board.specs.Piece.{code}
+use Rattle.board.specs.Geometry.{direction}
 use Rattle.board.specs.Attack.{attacks_along}
-use Rattle.board.specs.Rule.{Line, Mover, Rank, File, Diagonal, On, files, ranks, Reaches}
+use Rattle.board.specs.Rule.{Line, Mover, Rank, File, Diagonal, On, Reaches}
 use Rattle.board.proofs.BelowLaws.{decides_some}
 use Rattle.board.proofs.AttackLaws.{Along, decides_along}
 use Rattle.board.proofs.RuleLaws as rule
 use Rattle.moves.specs.Path.{Free, Slides}
-
-abbrev Straight : Side → ℕ → ℕ → ℕ → Type 0
-Straight side c s t = ((rank s ≡ rank t) ⊎ (file s ≡ file t)) × ((c ≡ code side Queen) ⊎ (c ≡ code side Rook))
-
-abbrev Slant : Side → ℕ → ℕ → ℕ → Type 0
-Slant side c s t = (files s t ≡ ranks s t) × ((c ≡ code side Queen) ⊎ (c ≡ code side Bishop))
-
--- the test of a line piece
-pub slides_test : (side : Side) (c s t : ℕ) →
-    Decides (not (eqb s t) && (((eqb (rank s) (rank t) || eqb (file s) (file t)) && (eqb c (code side Queen) || eqb c (code side Rook)))
-    || (eqb (files s t) (ranks s t) && (eqb c (code side Queen) || eqb c (code side Bishop)))))
-    (Slides side c s t)
-slides_test side c s t =
-    Decides-like _ there back
-    (Decides-and _ _ (Decides-not _ (Decides-eqb s t))
-    (Decides-or _ _
-    (Decides-and _ _ (Decides-or _ _ (Decides-eqb (rank s) (rank t)) (Decides-eqb (file s) (file t))) (Decides-or _ _ (Decides-eqb c _) (Decides-eqb c _)))
-    (Decides-and _ _ (Decides-eqb (files s t) (ranks s t)) (Decides-or _ _ (Decides-eqb c _) (Decides-eqb c _)))))
-  where
-    there : (s ≡ t → ⊥) × (Straight side c s t ⊎ Slant side c s t) → Slides side c s t
-    there (ne, inl (inl on, m)) = (ne, (Rank, on, m))
-    there (ne, inl (inr on, m)) = (ne, (File, on, m))
-    there (ne, inr (on, m)) = (ne, (Diagonal, on, m))
-
-    back : Slides side c s t → (s ≡ t → ⊥) × (Straight side c s t ⊎ Slant side c s t)
-    back (ne, (Rank, on, m)) = (ne, inl (inl on, m))
-    back (ne, (File, on, m)) = (ne, inl (inr on, m))
-    back (ne, (Diagonal, on, m)) = (ne, inr (on, m))
 
 -- the piece attacks along some direction exactly where it moves along a line that is free
 module _ (side : Side) (codes : List ℕ) (s t : ℕ) where

@@ -1,45 +1,20 @@
 -- Legality, from what the tests of a move answer.
 use Rattle.std.proofs.Common.{◌≡◌, ℕ, ◌+◌, ◌/◌, ◌%◌, ◌<◌, ◌≤◌, Bool, true, false, cond, not, ◌&&◌, eqb, ltb, leb, List, [], ◌∷◌, ◌++◌, map, get_or, Some, None, Option, sym, refl, ap, ◌∙◌, ⊎_elim, arith}
 use Rattle.std.specs.List.{range_with_len}
+use Rattle.std.specs.Option.{option_map, is_some}
 use Rattle.std.proofs.lemmas.List.FromFn.{map-range_with_len_more}
 use Rattle.std.proofs.lemmas.List.{map-append}
 use Rattle.std.proofs.lemmas.Bool.{eqb-true, lt-ltb, ne_eqb, and_from, both_ways, cases_eq, cond-true, cond-false}
 use Rattle.board.specs.declared.piece.Kind.TheVariants.{Pawn}
 use Rattle.board.specs.Piece.{code}
-use Rattle.board.specs.Attack.{in_check}
 use Rattle.board.proofs.BelowLaws.{not_passed, some_from, some_none}
 use Rattle.rules.specs.Parts.{Parts}
 use Rattle.rules.specs.Lawful.{lawful}
-use Rattle.rules.specs.Move.{Move, mover, numbered_move, is_pawn_move}
-use Rattle.rules.specs.After.{codes_after}
-use Rattle.rules.specs.Legal.{of_side, last_rank, promotes, goes, legal, keep, legal_moves, move_numbers, can_move, checkmate, stalemate}
+use Rattle.rules.specs.Move.{Move, numbered_move, is_pawn_move}
+use Rattle.rules.specs.Legal.{of_side, last_rank, promotes, legal, keep, legal_moves, move_numbers, can_move}
 use Rattle.rules.proofs.LawfulParts.{lawful_parts}
 use Rattle.rules.proofs.LegalLaws.{legal_parts, legal_promotion, goes_pawn}
 use Rattle.moves.specs.Action.{is_move_number}
-use Rattle.moves.proofs.BoolLaws.{then_on, then_off}
-
-module _ (p : Parts) (m : Move) (from to : ℕ) (ef : from ≡ m.from) (et : to ≡ m.to) (inside : m.to < 64) (x y : ℕ) (own blocked : Bool)
-    (ex : x ≡ get_or p.codes from 0) (ey : y ≡ get_or p.codes to 0) (eo : own ≡ of_side p.side x) (eb : blocked ≡ of_side p.side y) where
-  abbrev unblocked : Bool
-  unblocked = ltb m.to 64 && of_side p.side (mover p m) && not (of_side p.side (get_or p.codes m.to 0))
-
-  tested : unblocked ≡ (own && not blocked)
-  tested = let l : ltb m.to 64 ≡ true = lt-ltb m.to 64 inside in cc
-
-  pub not_tried : (own && not blocked) ≡ false → false ≡ legal p m
-  unfolding legal
-  not_tried t = sym (then_off unblocked (elim (goes p m) [ true ↦ not (in_check p.side (codes_after p m)) | false ↦ false ]) (tested ∙ t))
-
-  module _ (t : (own && not blocked) ≡ true) (way : Bool) (ew : way ≡ goes p m) where
-    pub not_going : way ≡ false → false ≡ legal p m
-    unfolding legal
-    not_going f =
-        sym (then_on unblocked _ (tested ∙ t) ∙ then_off (goes p m) (not (in_check p.side (codes_after p m))) (sym ew ∙ f))
-
-    pub tried : way ≡ true → (r : Bool) → r ≡ in_check p.side (codes_after p m) → not r ≡ legal p m
-    unfolding legal
-    tried f r e =
-        ap not e ∙ sym (then_on unblocked _ (tested ∙ t) ∙ then_on (goes p m) (not (in_check p.side (codes_after p m))) (sym ew ∙ f))
 
 -- a number of no move is that of no legal one
 no_legal : (p : Parts) (n : ℕ) → n / 4096 ≡ 1 → legal p (numbered_move n) ≡ false
@@ -80,10 +55,6 @@ module _ (p : Parts) (n x : ℕ) (ex : x ≡ get_or p.codes (n % 64) 0) where
       let r = sym (cond-false _ (leb 2 (n / 4096) && leb (n / 4096) 5) (eqb (n / 4096) 0) (ne_eqb _ _ no')) ∙ (promoting h l).1 in
       let z = eqb-true (n / 4096) 0 r in omega arith)
 
-pub none_tried : (p : Parts) (n : ℕ) → legal p (numbered_move n) ≡ false
-    → ◌≡◌ {A = Option Move} None (cond (legal p (numbered_move n)) (Some (numbered_move n)) None)
-none_tried p n e = sym (cond-false _ (Some (numbered_move n)) None e)
-
 -- a pawn does not stand on the last rank
 pub pawn_inside : (p : Parts) (m : Move) → lawful p ≡ true → is_pawn_move p m ≡ true → m.from < 56
 pawn_inside p m h e = ((lawful_parts p h).placed p.side m.from (eqb-true _ _ e)).1
@@ -92,6 +63,11 @@ pawn_inside p m h e = ((lawful_parts p h).placed p.side m.from (eqb-true _ _ e))
 pub found_legal : (b : Bool) (m x : Move) → Some x ≡ cond b (Some m) None → (b ≡ true) × (x ≡ m)
 found_legal true m x e = (refl, cc)
 found_legal false m x e = absurd (let z : ◌≡◌ {A = ℕ} 0 1 = cc in omega arith)
+
+pub some_legal : {X : Type 0} (b : Bool) (m : Move) (plain : X → Move) (o : Option X) → option_map plain o ≡ cond b (Some m) None → is_some o ≡ true → b ≡ true
+some_legal true m plain o e h = refl
+some_legal false m plain None e h = absurd (both_ways false refl h)
+some_legal false m plain (Some x) e h = absurd (let z : ◌≡◌ {A = ℕ} 0 1 = cc in omega arith)
 
 pub found_none : (b : Bool) (m : Move) → ◌≡◌ {A = Option Move} None (cond b (Some m) None) → b ≡ false
 found_none true m e = absurd (let z : ◌≡◌ {A = ℕ} 0 1 = cc in omega arith)
@@ -162,24 +138,3 @@ can_found p n h e = sym (some_from move_numbers (λ k. legal p (numbered_move k)
 pub can_missed : (p : Parts) → ((k : ℕ) → k < move_numbers → legal p (numbered_move k) ≡ false) → false ≡ can_move p
 unfolding can_move
 can_missed p f = sym (some_none move_numbers (λ k. legal p (numbered_move k)) f)
-
--- the mates
-module _ (p : Parts) (shown : List ℕ) (es : shown ≡ p.codes) (checked : Bool) (ec : checked ≡ in_check p.side shown) where
-  check : checked ≡ in_check p.side p.codes
-  check = ec ∙ ap (in_check p.side) es
-
-  pub mate_checked : (b : Bool) → checked ≡ true → b ≡ can_move p → not b ≡ checkmate p
-  unfolding checkmate
-  mate_checked b t e = ap not e ∙ sym (then_on (in_check p.side p.codes) (not (can_move p)) (sym check ∙ t))
-
-  pub mate_quiet : checked ≡ false → false ≡ checkmate p
-  unfolding checkmate
-  mate_quiet f = sym (then_off (in_check p.side p.codes) (not (can_move p)) (sym check ∙ f))
-
-  pub stale_checked : checked ≡ true → false ≡ stalemate p
-  unfolding stalemate
-  stale_checked t = sym (then_off (not (in_check p.side p.codes)) (not (can_move p)) (ap not (sym check ∙ t)))
-
-  pub stale_quiet : (b : Bool) → checked ≡ false → b ≡ can_move p → not b ≡ stalemate p
-  unfolding stalemate
-  stale_quiet b f e = ap not e ∙ sym (then_on (not (in_check p.side p.codes)) (not (can_move p)) (ap not (sym check ∙ f)))

@@ -1,3 +1,5 @@
 pub mod Action
 pub mod Path
 pub mod Change
+pub mod Castling
+pub mod Table

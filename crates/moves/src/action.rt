@@ -2,8 +2,9 @@
 ghost use Rattle.std.specs.Prelude.{◌≡◌, ◌≤◌, if◌then◌else◌, Some, None};
 ghost use Rattle.std.specs.Option.{option_map};
 ghost use Rattle.rules.specs.Move.{move_number, numbered_move};
-ghost use Rattle.moves.specs.Action.{plain, promotion_number, is_promotion_number, is_move_number};
+ghost use Rattle.moves.specs.Action.{plain, promoted_kind, promotion_number, is_promotion_number, is_move_number};
 
+use board::piece::Kind;
 use board::square::Square;
 
 /// What a pawn becomes on the last rank.
@@ -23,22 +24,29 @@ pub struct Move {
     pub promotion: Option<Promotion>,
 }
 
-/// The number of the kind that a pawn becomes, 0 for none.
-pub(crate) fn promoted(promotion: Option<Promotion>) -> u8
-    ensures number { result ≡ promotion_number promotion }
-    ensures most { result ≤ 5 }
-{
-    match promotion {
-        None => 0,
-        Some(Promotion::Knight) => 2,
-        Some(Promotion::Bishop) => 3,
-        Some(Promotion::Rook) => 4,
-        Some(Promotion::Queen) => 5,
+impl From<Promotion> for Kind {
+    ghost from_gives = { λ promotion kind. kind ≡ promoted_kind promotion };
+
+    fn from(promotion: Promotion) -> Kind {
+        match promotion {
+            Promotion::Knight => Kind::Knight,
+            Promotion::Bishop => Kind::Bishop,
+            Promotion::Rook => Kind::Rook,
+            Promotion::Queen => Kind::Queen,
+        }
     }
 }
 
-// The promotion with a number.
-fn promotion_numbered(number: u16) -> Option<Option<Promotion>>
+// The number of the kind that a pawn becomes, 0 for none.
+fn number_of(promotion: Option<Promotion>) -> u8
+    ensures number { result ≡ promotion_number promotion }
+    ensures most { result ≤ 6 }
+{
+    promotion.map_or(0, |promotion| Kind::from(promotion).number())
+}
+
+// The promotion with a number, no promotion for 0.
+fn numbered(number: u16) -> Option<Option<Promotion>>
     ensures { option_map promotion_number result ≡ (if is_promotion_number number then Some number else None) }
 {
     match number {
@@ -56,9 +64,9 @@ impl Move {
     pub fn number(self) -> u16
         ensures { result ≡ move_number (plain self) }
     {
-        let from = self.from.number() as u16;
-        let to = self.to.number() as u16;
-        let kind = promoted(self.promotion) as u16;
+        let from = u16::from(self.from.number());
+        let to = u16::from(self.to.number());
+        let kind = u16::from(number_of(self.promotion));
         from + 64 * to + 4096 * kind
     }
 
@@ -68,7 +76,7 @@ impl Move {
     {
         let from = Square::new((number % 64) as u8)?;
         let to = Square::new((number / 64 % 64) as u8)?;
-        let promotion = promotion_numbered(number / 4096)?;
+        let promotion = numbered(number / 4096)?;
         Some(Move {
             from,
             to,

@@ -1,85 +1,54 @@
 //! Castling.
 ghost use Rattle.std.specs.Prelude.{◌≡◌};
-ghost use Rattle.rules.specs.Legal.{castles_kingside, castles_queenside, own_rights, castles as castling};
+ghost use Rattle.rules.specs.Legal.{castles as castling};
 ghost use Rattle.laws.specs.Setup.{parts};
 ghost use Rattle.moves.specs.Action.{plain};
+ghost use Rattle.moves.specs.Castling.{castles_to};
 
 use crate::action::Move;
-use crate::squares::{code_on, king_square};
+use crate::table::Table;
 use board::Board;
-use board::piece::{Kind, code};
-use board::side::Side;
-use laws::setup::Setup;
-use rules::rights::Castling;
+use board::piece::Kind;
+use rules::home::Home;
+use rules::rights::Wing;
 
-// Castling on the king's side: the right, no piece between king and rook, and no attack on the king's square, the crossed one and the target.
-fn castles_short<B: Board>(board: &B, codes: &[u8; 64], side: Side, right: bool) -> bool
-    requires { B.codes board.now ≡ codes.now }
-    ensures { result ≡ castles_kingside codes.now side right }
-{
-    let home = king_square(side);
-    let crossed_free = code_on(codes, home as usize + 1) == 0;
-    let target_free = code_on(codes, home as usize + 2) == 0;
-    if right & crossed_free & target_free {
-        let enemy = side.other();
-        let stands = board.attacked(enemy, home);
-        let crosses = board.attacked(enemy, home + 1);
-        let lands = board.attacked(enemy, home + 2);
-        !stands & !crosses & !lands
-    } else {
-        false
+impl<'b, 's, B: Board> Table<'b, 's, B> {
+    // Whether the king of the side to move may castle to a wing: it has the right, no piece stands between king and rook, and the enemy
+    // attacks neither the king's square nor the crossed one nor the target.
+    #[tactic(auto, unfolding(rules::specs::Legal::castles_kingside, rules::specs::Legal::castles_queenside))]
+    fn castles_to(&self, wing: Wing, right: bool) -> bool
+        ensures { result ≡ castles_to self.now.setup.now.codes self.now.setup.now.side wing right }
+    {
+        let codes = &self.setup.codes;
+        let enemy = self.setup.side.other();
+        let king = Home::of(self.setup.side).king.number();
+        let (crossed, target, open) = match wing {
+            Wing::Kingside => (king + 1, king + 2, true),
+            Wing::Queenside => (king - 1, king - 2, codes[king as usize - 3] == 0),
+        };
+        let free = open && codes[crossed as usize] == 0 && codes[target as usize] == 0;
+        right
+            && free
+            && !self.board.attacked(enemy, king)
+            && !self.board.attacked(enemy, crossed)
+            && !self.board.attacked(enemy, target)
     }
-}
 
-// Castling on the queen's side.
-fn castles_long<B: Board>(board: &B, codes: &[u8; 64], side: Side, right: bool) -> bool
-    requires { B.codes board.now ≡ codes.now }
-    ensures { result ≡ castles_queenside codes.now side right }
-{
-    let home = king_square(side);
-    let crossed_free = code_on(codes, home as usize - 1) == 0;
-    let target_free = code_on(codes, home as usize - 2) == 0;
-    let next_free = code_on(codes, home as usize - 3) == 0;
-    if right & crossed_free & target_free & next_free {
-        let enemy = side.other();
-        let stands = board.attacked(enemy, home);
-        let crosses = board.attacked(enemy, home - 1);
-        let lands = board.attacked(enemy, home - 2);
-        !stands & !crosses & !lands
-    } else {
-        false
+    // Whether a move castles.
+    #[tactic(auto, unfolding(rules::specs::Legal::castles))]
+    pub(crate) fn castles(&self, m: Move) -> bool
+        ensures { result ≡ castling (parts self.now.setup.now) (plain m) }
+    {
+        let side = self.setup.side;
+        let king = Home::of(side).king;
+        if !self.setup.holds(side, Kind::King, m.from) || m.from.number() != king.number() {
+            return false;
+        }
+        let rights = self.setup.rights.of(side);
+        let to = m.to.number();
+        if to == king.number() + 2 {
+            return self.castles_to(Wing::Kingside, rights.kingside);
+        }
+        to == king.number() - 2 && self.castles_to(Wing::Queenside, rights.queenside)
     }
-}
-
-// The rights of the side to move.
-fn rights_to_move(setup: &Setup) -> Castling
-    ensures { result ≡ own_rights (parts setup.now) }
-{
-    match setup.side {
-        Side::White => setup.rights.white,
-        Side::Black => setup.rights.black,
-    }
-}
-
-// Whether a move castles, on a board that shows the position.
-pub(crate) fn castles<B: Board>(board: &B, setup: &Setup, m: Move) -> bool
-    requires { B.codes board.now ≡ setup.now.codes }
-    ensures { result ≡ castling (parts setup.now) (plain m) }
-{
-    let side = setup.side;
-    let home = king_square(side);
-    let from = m.from.number();
-    let to = m.to.number();
-    let king = code_on(&setup.codes, from as usize) == code(side, Kind::King);
-    if !(king & (from == home)) {
-        return false;
-    }
-    let rights = rights_to_move(setup);
-    if to == home + 2 {
-        return castles_short(board, &setup.codes, side, rights.kingside);
-    }
-    if to == home - 2 {
-        return castles_long(board, &setup.codes, side, rights.queenside);
-    }
-    false
 }

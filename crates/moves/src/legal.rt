@@ -8,7 +8,7 @@ ghost use Rattle.moves.specs.Action.{plain};
 
 use crate::action::Move;
 use crate::play::setup_after;
-use crate::trial::{can_move_on, legal_numbered, legal_on};
+use crate::table::Table;
 use board::Board;
 use board::check::in_check;
 use laws::position::Position;
@@ -20,7 +20,8 @@ pub fn is_legal<B: Board>(board: &mut B, position: &Position, m: Move) -> bool
     ensures list { B.codes board.new ≡ (position_parts position.now).codes }
 {
     position.show(board);
-    legal_on(board, &position.setup, m)
+    let setup = &position.setup;
+    Table { board, setup }.is_legal(m)
 }
 
 /// The position after a move, which the board then shows, or none if the move is not legal.
@@ -28,8 +29,7 @@ pub fn after<B: Board>(board: &mut B, position: &Position, m: Move) -> Option<Po
     ensures answer { option_map position_parts result ≡ (if legal (position_parts position.now) (plain m) then Some (next (position_parts position.now) (plain m)) else None) }
     ensures list { B.codes board.new ≡ (if legal (position_parts position.now) (plain m) then codes_after (position_parts position.now) (plain m) else (position_parts position.now).codes) }
 {
-    position.show(board);
-    if !legal_on(board, &position.setup, m) {
+    if !is_legal(board, position, m) {
         return None;
     }
     let setup = setup_after(&position.setup, m);
@@ -44,33 +44,28 @@ pub fn can_move<B: Board>(board: &mut B, position: &Position) -> bool
     ensures list { B.codes board.new ≡ (position_parts position.now).codes }
 {
     position.show(board);
-    can_move_on(board, &position.setup)
+    let setup = &position.setup;
+    Table { board, setup }.can_move()
 }
 
 /// Whether the side to move is in check and has no legal move.
+#[tactic(auto, unfolding(rules::specs::Legal::checkmate))]
 pub fn checkmate<B: Board>(board: &mut B, position: &Position) -> bool
     ensures answer { result ≡ mated (position_parts position.now) }
     ensures list { B.codes board.new ≡ (position_parts position.now).codes }
 {
     position.show(board);
-    if in_check(board, position.setup.side) {
-        !can_move_on(board, &position.setup)
-    } else {
-        false
-    }
+    in_check(board, position.setup.side) && !can_move(board, position)
 }
 
 /// Whether the side to move is not in check and has no legal move.
+#[tactic(auto, unfolding(rules::specs::Legal::stalemate))]
 pub fn stalemate<B: Board>(board: &mut B, position: &Position) -> bool
     ensures answer { result ≡ stalemated (position_parts position.now) }
     ensures list { B.codes board.new ≡ (position_parts position.now).codes }
 {
     position.show(board);
-    if !in_check(board, position.setup.side) {
-        !can_move_on(board, &position.setup)
-    } else {
-        false
-    }
+    !in_check(board, position.setup.side) && !can_move(board, position)
 }
 
 /// The legal moves, in ascending order of their numbers.
@@ -83,9 +78,12 @@ pub fn legal_moves<B: Board>(
     ensures list { B.codes board.new ≡ (position_parts position.now).codes }
 {
     position.show(board);
+    let setup = &position.setup;
+    let mut table = Table { board, setup };
     let mut moves = Vec::new(heap);
+    // A loop: the closure of a chain may not change the board that it tries moves on.
     for number in 0..24576u16 {
-        if let Some(m) = legal_numbered(board, &position.setup, number) {
+        if let Some(m) = table.legal_numbered(number) {
             moves.push(m)?;
         }
     }

@@ -10,5 +10,6 @@ mod reach;
 pub mod sort;
 pub mod source;
 mod squares;
+mod table;
 mod trial;
 mod way;

@@ -1,54 +1,43 @@
 //! How a pawn goes.
-ghost use Rattle.std.specs.Prelude.{◌≡◌, ◌<◌};
-ghost use Rattle.std.specs.Option.{option_map};
+ghost use Rattle.std.specs.Prelude.{◌≡◌};
 ghost use Rattle.rules.specs.Legal.{pawn_advance, pawn_capture, promotes as promoting};
-ghost use Rattle.laws.specs.Setup.{square_number};
+ghost use Rattle.laws.specs.Setup.{parts};
 ghost use Rattle.moves.specs.Action.{plain};
 
-use crate::action::{Move, promoted};
+use crate::action::Move;
 use crate::reach::pawn_reaches;
-use crate::squares::{code_on, end_rank, first_rank, is_crossed, is_own, one_ahead};
+use crate::squares::{code_on, is_crossed, is_own};
 use board::side::Side;
-use board::square::Square;
+use laws::setup::Setup;
+use rules::home::{Home, ahead};
 
 // Whether a pawn goes one square ahead, or two from its first rank, over empty squares.
-pub(crate) fn advances(codes: &[u8; 64], side: Side, from: usize, to: usize) -> bool
-    requires { (from < 64) × (to < 64) }
-    ensures { result ≡ pawn_advance codes.now side from to }
+#[tactic(auto, unfolding(rules::specs::Legal::pawn_advance))]
+pub(crate) fn advances(setup: &Setup, m: Move) -> bool
+    ensures { result ≡ pawn_advance setup.now.codes setup.now.side m.from.number m.to.number }
 {
-    let one = one_ahead(side, from);
-    let two = one_ahead(side, one);
-    let free = code_on(codes, to) == 0;
-    let crossed = code_on(codes, one) == 0;
-    let home = from / 8 == first_rank(side);
-    ((to == one) & free) | (home & (to == two) & crossed & free)
+    let one = ahead(setup.side, m.from.number());
+    let two = ahead(setup.side, one as u8);
+    let to = m.to.index();
+    let free = setup.code_on(m.to) == 0;
+    let crossed = code_on(&setup.codes, one) == 0;
+    let home = m.from.rank() == Home::of(setup.side).pawn_rank;
+    (to == one && free) || (home && to == two && crossed && free)
 }
 
 // Whether a pawn captures diagonally ahead: an enemy's piece, or a pawn en passant.
-pub(crate) fn captures(
-    codes: &[u8; 64],
-    side: Side,
-    en_passant: Option<Square>,
-    from: usize,
-    to: usize,
-) -> bool
-    requires { (from < 64) × (to < 64) }
-    ensures { result ≡ pawn_capture codes.now side (option_map square_number en_passant) from to }
+#[tactic(auto, unfolding(rules::specs::Legal::pawn_capture))]
+pub(crate) fn captures(setup: &Setup, m: Move) -> bool
+    ensures { result ≡ pawn_capture setup.now.codes setup.now.side (parts setup.now).en_passant m.from.number m.to.number }
 {
-    let reached = pawn_reaches(side, from, to);
-    let enemy = is_own(side.other(), code_on(codes, to));
-    let crossed = is_crossed(en_passant, to);
-    reached & (enemy | crossed)
+    let enemy = is_own(setup.side.other(), setup.code_on(m.to));
+    let crossed = is_crossed(setup.en_passant, m.to);
+    pawn_reaches(setup.side, m.from, m.to) && (enemy || crossed)
 }
 
 // Whether a pawn's move promotes exactly on the last rank.
 pub(crate) fn promotes(side: Side, m: Move) -> bool
     ensures { result ≡ promoting side (plain m) }
 {
-    let number = promoted(m.promotion);
-    if m.to.number() as usize / 8 == end_rank(side) {
-        (number >= 2) & (number <= 5)
-    } else {
-        number == 0
-    }
+    m.promotion.is_some() == (m.to.rank() == Home::of(side).last_rank)
 }

@@ -1,122 +1,115 @@
 //! How far the piece on a square reaches.
-ghost use Rattle.std.specs.Prelude.{◌≡◌, ◌<◌, ◌≤◌, Decides, ◌≢◌};
+ghost use Rattle.std.specs.Prelude.{◌≡◌, ◌≤◌, ◌<◌, ◌↔◌, ◌≢◌, IsTrue};
 ghost use Rattle.board.specs.Attack.{attacks_from, pawn_attack};
-ghost use Rattle.board.specs.Geometry.{near as one_apart, far as two_apart, knight_step, king_step};
-ghost use Rattle.board.specs.Rule.{Line, On, gap as distance};
+ghost use Rattle.board.specs.Geometry.{knight_step, king_step};
+ghost use Rattle.board.specs.Rule.{Line, On, files, ranks};
 ghost use Rattle.moves.specs.Path.{Free, Slides, line_step};
 
 use board::piece::{Kind, code};
 use board::side::Side;
+use board::square::Square;
+use laws::setup::Setup;
 
-// Whether two files, or two ranks, are one apart; two apart.
-fn near(a: usize, b: usize) -> bool
-    requires { (a < 64) × (b < 64) }
-    ensures { result ≡ one_apart a b }
+// How many files, and how many ranks, apart two squares are.
+pub(crate) fn apart(from: Square, to: Square) -> (u8, u8)
+    ensures files { result.0 ≡ files from.number to.number }
+    ensures ranks { result.1 ≡ ranks from.number to.number }
 {
-    let up = a + 1 == b;
-    let down = b + 1 == a;
-    up | down
+    (
+        from.file().abs_diff(to.file()),
+        from.rank().abs_diff(to.rank()),
+    )
 }
 
-pub(crate) fn far(a: usize, b: usize) -> bool
-    requires { (a < 64) × (b < 64) }
-    ensures { result ≡ two_apart a b }
+// Whether a square is one of the two diagonally ahead of a side's pawn.
+#[tactic(auto, unfolding(board::specs::Attack::pawn_attack))]
+pub(crate) fn pawn_reaches(side: Side, from: Square, to: Square) -> bool
+    ensures { result ≡ pawn_attack side from.number to.number }
 {
-    let up = a + 2 == b;
-    let down = b + 2 == a;
-    up | down
-}
-
-pub(crate) fn pawn_reaches(side: Side, from: usize, to: usize) -> bool
-    requires { (from < 64) × (to < 64) }
-    ensures { result ≡ pawn_attack side from to }
-{
-    let beside = near(from % 8, to % 8);
+    let beside = from.file().abs_diff(to.file()) == 1;
     match side {
-        Side::White => (from / 8 + 1 == to / 8) & beside,
-        Side::Black => (to / 8 + 1 == from / 8) & beside,
+        Side::White => from.rank() + 1 == to.rank() && beside,
+        Side::Black => to.rank() + 1 == from.rank() && beside,
     }
 }
 
-fn knight_reaches(from: usize, to: usize) -> bool
-    requires { (from < 64) × (to < 64) }
-    ensures { result ≡ knight_step from to }
+#[tactic(auto, unfolding(board::specs::Geometry::knight_step))]
+fn knight_reaches(from: Square, to: Square) -> bool
+    ensures { result ≡ knight_step from.number to.number }
 {
-    let upright = near(from % 8, to % 8) & far(from / 8, to / 8);
-    let lying = far(from % 8, to % 8) & near(from / 8, to / 8);
-    upright | lying
+    matches!(apart(from, to), (1, 2) | (2, 1))
 }
 
-fn king_reaches(from: usize, to: usize) -> bool
-    requires { (from < 64) × (to < 64) }
-    ensures { result ≡ king_step from to }
+#[tactic(auto, unfolding(board::specs::Geometry::king_step))]
+fn king_reaches(from: Square, to: Square) -> bool
+    ensures { result ≡ king_step from.number to.number }
 {
-    let files = near(from % 8, to % 8);
-    let ranks = near(from / 8, to / 8);
-    let same_file = from % 8 == to % 8;
-    let same_rank = from / 8 == to / 8;
-    (files & (ranks | same_rank)) | (same_file & ranks)
-}
-
-// Whether every square strictly between two on one line is empty.
-fn line_open(codes: &[u8; 64], from: usize, to: usize) -> bool
-    requires { (from < 64) × (to < 64) }
-    ensures { (l : Line) → (from ≢ to) → On l from to → Decides result (Free l codes.now from to) }
-{
-    let low = from.min(to);
-    let high = from.max(to);
-    let step = step_between(low, high);
-    let mut at = low + step;
-    while at < high {
-        if codes[at] != 0 {
-            return false;
-        }
-        at += step;
-    }
-    true
+    matches!(apart(from, to), (0, 1) | (1, 0) | (1, 1))
 }
 
 // From one square of a line to the next higher one.
-fn step_between(low: usize, high: usize) -> usize
-    ensures { (result ≡ line_step low high) × ((1 ≤ result) × (result ≤ 9)) }
+fn step_between(low: Square, high: Square) -> usize
+    ensures step { result ≡ line_step low.number high.number }
+    ensures least { 1 ≤ result }
+    ensures most { result ≤ 9 }
 {
-    if low / 8 == high / 8 {
+    if low.rank() == high.rank() {
         1
-    } else if low % 8 == high % 8 {
+    } else if low.file() == high.file() {
         8
-    } else if low % 8 < high % 8 {
+    } else if low.file() < high.file() {
         9
     } else {
         7
     }
 }
 
-// How far apart two files, or two ranks, are.
-fn gap(a: usize, b: usize) -> usize
-    ensures { result ≡ distance a b }
+// Whether every square strictly between two on one line, the lower one first, is empty.
+fn rising_open(codes: &[u8; 64], low: Square, high: Square) -> bool
+    requires { low.number < high.number }
+    ensures { (l : Line) → On l low.number high.number → IsTrue result ↔ Free l codes.now low.number high.number }
 {
-    if a < b { b - a } else { a - b }
+    let step = step_between(low, high);
+    for at in (low.index() + step..high.index()).step_by(step) {
+        if codes[at] != 0 {
+            return false;
+        }
+    }
+    true
+}
+
+// Whether every square strictly between two on one line is empty.
+fn line_open(codes: &[u8; 64], from: Square, to: Square) -> bool
+    ensures { (l : Line) → (from.number ≢ to.number) → On l from.number to.number → IsTrue result ↔ Free l codes.now from.number to.number }
+{
+    if from.number() < to.number() {
+        rising_open(codes, from, to)
+    } else if to.number() < from.number() {
+        rising_open(codes, to, from)
+    } else {
+        true
+    }
 }
 
 // Whether a code is a line piece of the side that moves along a line from one square to another.
-fn slides_to(found: u8, side: Side, from: usize, to: usize) -> bool
-    ensures { Decides result (Slides side found from to) }
+fn slides_to(found: u8, side: Side, from: Square, to: Square) -> bool
+    ensures { IsTrue result ↔ Slides side found from.number to.number }
 {
+    let (files, ranks) = apart(from, to);
     let queen = found == code(side, Kind::Queen);
     let rook = found == code(side, Kind::Rook);
     let bishop = found == code(side, Kind::Bishop);
-    let apart = from != to;
-    let straight = (from / 8 == to / 8) | (from % 8 == to % 8);
-    let slant = gap(from % 8, to % 8) == gap(from / 8, to / 8);
-    apart & ((straight & (queen | rook)) | (slant & (queen | bishop)))
+    let straight = files == 0 || ranks == 0;
+    from.number() != to.number()
+        && (straight && (queen || rook) || files == ranks && (queen || bishop))
 }
 
-// Whether the piece on a square is the side's and attacks another.
-pub(crate) fn reaches(codes: &[u8; 64], side: Side, from: usize, to: usize) -> bool
-    requires { (from < 64) × (to < 64) }
-    ensures { result ≡ attacks_from side codes.now from to }
+// Whether the piece on a square is the side's to move and attacks another.
+pub(crate) fn reaches(setup: &Setup, from: Square, to: Square) -> bool
+    ensures { result ≡ attacks_from setup.now.side setup.now.codes from.number to.number }
 {
-    let found = codes[from];
+    let side = setup.side;
+    let found = setup.code_on(from);
     if found == code(side, Kind::Pawn) {
         return pawn_reaches(side, from, to);
     }
@@ -126,9 +119,5 @@ pub(crate) fn reaches(codes: &[u8; 64], side: Side, from: usize, to: usize) -> b
     if found == code(side, Kind::King) {
         return king_reaches(from, to);
     }
-    if slides_to(found, side, from, to) {
-        line_open(codes, from, to)
-    } else {
-        false
-    }
+    slides_to(found, side, from, to) && line_open(&setup.codes, from, to)
 }

@@ -5,54 +5,42 @@ ghost use Rattle.laws.specs.Setup.{parts};
 ghost use Rattle.moves.specs.Action.{plain};
 
 use crate::action::Move;
-use crate::reach::far;
-use crate::squares::{code_on, is_crossed};
-use board::piece::{Kind, code};
+use crate::reach::apart;
+use crate::squares::is_crossed;
+use board::piece::Kind;
 use laws::setup::Setup;
 
 pub(crate) fn moves_pawn(setup: &Setup, m: Move) -> bool
     ensures { result ≡ is_pawn_move (parts setup.now) (plain m) }
 {
-    code_on(&setup.codes, m.from.number() as usize) == code(setup.side, Kind::Pawn)
+    setup.holds(setup.side, Kind::Pawn, m.from)
 }
 
 /// Whether a move is castling: the king's move by two files.
 pub fn moves_rook_too(setup: &Setup, m: Move) -> bool
     ensures { result ≡ is_castling (parts setup.now) (plain m) }
 {
-    let from = m.from.number() as usize;
-    let to = m.to.number() as usize;
-    let king = code_on(&setup.codes, from) == code(setup.side, Kind::King);
-    let apart = far(from % 8, to % 8);
-    king & apart
+    let (files, _) = apart(m.from, m.to);
+    setup.holds(setup.side, Kind::King, m.from) && files == 2
 }
 
 // A pawn's move by two ranks.
 pub(crate) fn steps_twice(setup: &Setup, m: Move) -> bool
     ensures { result ≡ is_double_step (parts setup.now) (plain m) }
 {
-    let from = m.from.number() as usize;
-    let to = m.to.number() as usize;
-    let pawn = moves_pawn(setup, m);
-    let apart = far(from / 8, to / 8);
-    pawn & apart
+    let (_, ranks) = apart(m.from, m.to);
+    moves_pawn(setup, m) && ranks == 2
 }
 
 pub(crate) fn takes_crossing(setup: &Setup, m: Move) -> bool
     ensures { result ≡ takes_en_passant (parts setup.now) (plain m) }
 {
-    let from = m.from.number() as usize;
-    let to = m.to.number() as usize;
-    let pawn = moves_pawn(setup, m);
-    let crossed = is_crossed(setup.en_passant, to);
-    pawn & crossed & !(from % 8 == to % 8)
+    moves_pawn(setup, m) && is_crossed(setup.en_passant, m.to) && m.from.file() != m.to.file()
 }
 
 /// Whether a move is a capture: on its target, or en passant.
 pub fn takes(setup: &Setup, m: Move) -> bool
     ensures { result ≡ is_capture (parts setup.now) (plain m) }
 {
-    let empty = code_on(&setup.codes, m.to.number() as usize) == 0;
-    let crossing = takes_crossing(setup, m);
-    !empty | crossing
+    setup.code_on(m.to) != 0 || takes_crossing(setup, m)
 }

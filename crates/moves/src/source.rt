@@ -9,43 +9,23 @@ ghost use Rattle.moves.specs.Action.{promotion_number};
 
 use crate::action::{Move, Promotion};
 use crate::sort::moves_rook_too;
-use crate::squares::code_on;
-use crate::trial::legal_on;
+use crate::table::Table;
 use board::Board;
-use board::piece::{Kind, code};
-use laws::position::Position;
-use laws::setup::Setup;
+use board::piece::Kind;
 use board::square::Square;
+use laws::position::Position;
 
-// Whether a piece of a kind goes legally from a square to a target; the board is left as it was.
-fn is_source<B: Board>(
-    board: &mut B,
-    setup: &Setup,
-    kind: Kind,
-    to: Square,
-    promotion: Option<Promotion>,
-    from: u8,
-) -> bool
-    requires { (B.codes board.old ≡ setup.now.codes) × (from < 64) }
-    ensures answer { result ≡ source (parts setup.now) (number kind) to.number (promotion_number promotion) from }
-    ensures list { B.codes board.new ≡ setup.now.codes }
-{
-    if code_on(&setup.codes, from as usize) != code(setup.side, kind) {
-        return false;
-    }
-    match Square::new(from) {
-        None => false,
-        Some(from) => {
-            let m = Move {
-                from,
-                to,
-                promotion,
-            };
-            if moves_rook_too(setup, m) {
-                return false;
-            }
-            legal_on(board, setup, m)
-        }
+impl<'b, 's, B: Board> Table<'b, 's, B> {
+    ghost use Rattle.moves.specs.Table.{Keeps};
+
+    // Whether a move is legal, one of a piece of a kind, and not castling.
+    #[tactic(auto, unfolding(rules::specs::Legal::source))]
+    fn is_from(&mut self, kind: Kind, m: Move) -> bool
+        ensures answer { result ≡ source (parts self.old.setup.now) (number kind) m.to.number (promotion_number m.promotion) m.from.number }
+        ensures kept { Keeps self.old self.new }
+    {
+        let setup = self.setup;
+        setup.holds(setup.side, kind, m.from) && !moves_rook_too(setup, m) && self.is_legal(m)
     }
 }
 
@@ -61,9 +41,18 @@ pub fn sources<B: Board>(
     ensures list { B.codes board.new ≡ (position_parts position.now).codes }
 {
     position.show(board);
+    let setup = &position.setup;
+    let mut table = Table { board, setup };
     let mut found = [false; 64];
-    for from in 0..64u8 {
-        found[from as usize] = is_source(board, &position.setup, kind, to, promotion, from);
+    for number in 0..64u8 {
+        if let Some(from) = Square::new(number) {
+            let m = Move {
+                from,
+                to,
+                promotion,
+            };
+            found[from.index()] = table.is_from(kind, m);
+        }
     }
     found
 }

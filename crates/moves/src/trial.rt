@@ -13,12 +13,13 @@ ghost use Rattle.moves.specs.Change.{SameBut};
 use crate::action::Move;
 use crate::play::codes_after;
 use crate::sort::moves_rook_too;
-use crate::squares::{code_on, end_rank, is_own, kingside_rook, one_ahead, queenside_rook};
-use crate::way::goes;
+use crate::squares::{code_on, is_own};
+use crate::table::Table;
 use board::Board;
 use board::check::in_check;
 use board::piece::{Kind, code};
 use laws::setup::Setup;
+use rules::home::{Home, ahead};
 
 // The squares whose codes a move can change.
 fn changed(setup: &Setup, m: Move) -> [u8; 4]
@@ -26,24 +27,31 @@ fn changed(setup: &Setup, m: Move) -> [u8; 4]
 {
     let from = m.from.number();
     let to = m.to.number();
+    let home = Home::of(setup.side);
     if !moves_rook_too(setup, m) {
-        let beside = one_ahead(setup.side.other(), to as usize) as u8;
+        let beside = ahead(setup.side.other(), to) as u8;
         return [from, to, beside, beside];
     }
     if from < to {
-        [from, to, kingside_rook(setup.side), from + 1]
+        [from, to, home.kingside_rook.number(), from + 1]
     } else {
-        [from, to, queenside_rook(setup.side), from.saturating_sub(1)]
+        [
+            from,
+            to,
+            home.queenside_rook.number(),
+            from.saturating_sub(1),
+        ]
     }
 }
 
 // Puts the codes of some squares, outside which the board shows them already.
 fn redraw<B: Board>(board: &mut B, picture: &[u8; 64], squares: &[u8; 4])
-    requires { (Shown picture.now) × (SameBut squares.now (B.codes board.old) picture.now) }
+    requires shown { Shown picture.now }
+    requires same { SameBut squares.now (B.codes board.old) picture.now }
     ensures { B.codes board.new ≡ picture.now }
 {
-    for square in squares {
-        board.put(*square, code_on(picture, *square as usize));
+    for &square in squares {
+        board.put(square, code_on(picture, square as usize));
     }
 }
 
@@ -61,23 +69,6 @@ fn leaves_check<B: Board>(board: &mut B, setup: &Setup, m: Move) -> bool
     answer
 }
 
-// Whether a move is legal; the board is left as it was.
-pub(crate) fn legal_on<B: Board>(board: &mut B, setup: &Setup, m: Move) -> bool
-    requires { B.codes board.old ≡ setup.now.codes }
-    ensures answer { result ≡ legal (parts setup.now) (plain m) }
-    ensures list { B.codes board.new ≡ setup.now.codes }
-{
-    let own = is_own(setup.side, code_on(&setup.codes, m.from.number() as usize));
-    let blocked = is_own(setup.side, code_on(&setup.codes, m.to.number() as usize));
-    if !(own & !blocked) {
-        return false;
-    }
-    if !goes(board, setup, m) {
-        return false;
-    }
-    !leaves_check(board, setup, m)
-}
-
 // Whether the move with a number is worth a trial: an own piece moves, and only a pawn that comes to the last rank promotes.
 fn worth_trying(setup: &Setup, number: u16) -> bool
     ensures { result ≡ false → legal (parts setup.now) (numbered_move number) ≡ false }
@@ -92,40 +83,49 @@ fn worth_trying(setup: &Setup, number: u16) -> bool
     if found != code(setup.side, Kind::Pawn) {
         return false;
     }
-    (number / 64 % 64 / 8) as usize == end_rank(setup.side)
+    (number / 64 % 64 / 8) as u8 == Home::of(setup.side).last_rank
 }
 
-// The move with a number, if it is legal.
-pub(crate) fn legal_numbered<B: Board>(board: &mut B, setup: &Setup, number: u16) -> Option<Move>
-    requires { (B.codes board.old ≡ setup.now.codes) × (number < 24576) }
-    ensures answer { option_map plain result ≡ (if legal (parts setup.now) (numbered_move number) then Some (numbered_move number) else None) }
-    ensures list { B.codes board.new ≡ setup.now.codes }
-{
-    if !worth_trying(setup, number) {
-        return None;
+impl<'b, 's, B: Board> Table<'b, 's, B> {
+    ghost use Rattle.moves.specs.Table.{Keeps};
+
+    // Whether a move is legal.
+    #[tactic(auto, unfolding(rules::specs::Legal::legal))]
+    pub(crate) fn is_legal(&mut self, m: Move) -> bool
+        ensures answer { result ≡ legal (parts self.old.setup.now) (plain m) }
+        ensures kept { Keeps self.old self.new }
+    {
+        let own = is_own(self.setup.side, self.setup.code_on(m.from));
+        let blocked = is_own(self.setup.side, self.setup.code_on(m.to));
+        if !own || blocked || !self.goes(m) {
+            return false;
+        }
+        !leaves_check(self.board, self.setup, m)
     }
-    match Move::numbered(number) {
-        None => None,
-        Some(m) => {
-            if legal_on(board, setup, m) {
-                Some(m)
-            } else {
-                None
+
+    // The move with a number, if it is legal.
+    pub(crate) fn legal_numbered(&mut self, number: u16) -> Option<Move>
+        requires { number < 24576 }
+        ensures answer { option_map plain result ≡ (if legal (parts self.old.setup.now) (numbered_move number) then Some (numbered_move number) else None) }
+        ensures kept { Keeps self.old self.new }
+    {
+        if !worth_trying(self.setup, number) {
+            return None;
+        }
+        let m = Move::numbered(number)?;
+        if self.is_legal(m) { Some(m) } else { None }
+    }
+
+    // Whether there is a legal move.
+    pub(crate) fn can_move(&mut self) -> bool
+        ensures answer { result ≡ can_move (parts self.old.setup.now) }
+        ensures kept { Keeps self.old self.new }
+    {
+        for number in 0..24576u16 {
+            if self.legal_numbered(number).is_some() {
+                return true;
             }
         }
+        false
     }
-}
-
-// Whether there is a legal move.
-pub(crate) fn can_move_on<B: Board>(board: &mut B, setup: &Setup) -> bool
-    requires { B.codes board.old ≡ setup.now.codes }
-    ensures answer { result ≡ can_move (parts setup.now) }
-    ensures list { B.codes board.new ≡ setup.now.codes }
-{
-    for number in 0..24576u16 {
-        if let Some(_) = legal_numbered(board, setup, number) {
-            return true;
-        }
-    }
-    false
 }

@@ -4,35 +4,23 @@ ghost use Rattle.rules.specs.Legal.{goes as going};
 ghost use Rattle.laws.specs.Setup.{parts};
 ghost use Rattle.moves.specs.Action.{plain};
 
-use crate::action::{Move, promoted};
-use crate::castle::castles;
+use crate::action::Move;
 use crate::pawn::{advances, captures, promotes};
 use crate::reach::reaches;
-use crate::squares::code_on;
+use crate::sort::moves_pawn;
+use crate::table::Table;
 use board::Board;
-use board::piece::{Kind, code};
-use laws::setup::Setup;
 
-// Whether a piece moves as its kind does, on a board that shows the position.
-pub(crate) fn goes<B: Board>(board: &B, setup: &Setup, m: Move) -> bool
-    requires { B.codes board.now ≡ setup.now.codes }
-    ensures { result ≡ going (parts setup.now) (plain m) }
-{
-    let side = setup.side;
-    let from = m.from.number() as usize;
-    let to = m.to.number() as usize;
-    if code_on(&setup.codes, from) == code(side, Kind::Pawn) {
-        if !promotes(side, m) {
-            return false;
+impl<'b, 's, B: Board> Table<'b, 's, B> {
+    // Whether a piece moves as its kind does.
+    #[tactic(auto, unfolding(rules::specs::Legal::goes))]
+    pub(crate) fn goes(&self, m: Move) -> bool
+        ensures { result ≡ going (parts self.now.setup.now) (plain m) }
+    {
+        let setup = self.setup;
+        if moves_pawn(setup, m) {
+            return promotes(setup.side, m) && (advances(setup, m) || captures(setup, m));
         }
-        let advances = advances(&setup.codes, side, from, to);
-        let captures = captures(&setup.codes, side, setup.en_passant, from, to);
-        return advances | captures;
+        m.promotion.is_none() && (reaches(setup, m.from, m.to) || self.castles(m))
     }
-    if promoted(m.promotion) != 0 {
-        return false;
-    }
-    let reached = reaches(&setup.codes, side, from, to);
-    let castled = castles(board, setup, m);
-    reached | castled
 }

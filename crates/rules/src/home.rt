@@ -1,5 +1,5 @@
 //! The home of a side: where its king and rooks start, and the ranks of its pawns.
-ghost use Rattle.std.specs.Prelude.{◌≡◌, ◌≤◌};
+ghost use Rattle.std.specs.Prelude.{◌≡◌, ◌+◌, ◌≤◌};
 ghost use Rattle.rules.specs.Lawful.{ahead as one_ahead, king_home, kingside_home, queenside_home, en_passant_rank};
 ghost use Rattle.rules.specs.Legal.{pawn_home, last_rank};
 
@@ -57,7 +57,8 @@ impl Home {
 
 /// The number of the square one rank ahead of a side's man: above 63 beyond rank 8, and 0 beyond rank 1.
 pub fn ahead(side: Side, square: u8) -> usize
-    ensures { result ≡ one_ahead side square }
+    ensures square { result ≡ one_ahead side square }
+    ensures most { result ≤ square + 8 }
 {
     match side {
         Side::White => square as usize + 8,

@@ -1,4 +1,4 @@
-use Rattle.std.proofs.Common.{Some, sym, ap, ◌∙◌}
+use Rattle.std.proofs.Common.{sym, ap, ◌∙◌}
 use Rattle.std.proofs.lemmas.Bool.{cond-true}
 use Rattle.rules.specs.Parts.{Parts}
 use Rattle.rules.specs.Lawful.{lawful}
@@ -15,14 +15,10 @@ setup_after-setup-requires g c = pawn_inside (position_parts c.args.position.now
 pub invariant_of-next : goal.invariant_of-next
 invariant_of-next g c = record {
   ok = ap lawful c.setup_after-setup.ensures
-      ∙ stays_lawful (position_parts c.args.position.now) (plain c.args.m) c.args.position.now.ok (sym c.if-not-legal_on.ensures.answer);
+      ∙ stays_lawful (position_parts c.args.position.now) (plain c.args.m) c.args.position.now.ok (sym c.if-not-is_legal.ensures.answer);
 }
 
-pub returns : goal.returns
-returns g c =
-    let l = sym c.if-not-legal_on.ensures.answer in
-    record {
-      answer = ap Some c.setup_after-setup.ensures ∙ sym (cond-true _ _ _ l);
-      list = c.show-2.ensures ∙ ap (λ (p : Parts). p.codes) c.setup_after-setup.ensures
-          ∙ after_codes (position_parts c.args.position.now) (plain c.args.m) ∙ sym (cond-true _ _ _ l);
-    }
+pub returns-clause-list : goal.returns-clause-list
+returns-clause-list g c =
+    c.show.ensures ∙ ap (λ (p : Parts). p.codes) c.setup_after-setup.ensures ∙ after_codes (position_parts c.args.position.now) (plain c.args.m)
+    ∙ sym (cond-true _ _ _ (sym c.if-not-is_legal.ensures.answer))

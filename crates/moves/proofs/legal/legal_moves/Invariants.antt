@@ -5,5 +5,8 @@ use Rattle.moves.proofs.TrialLaws.{legal_below}
 use Rattle.moves.proofs.legal.legal_moves.Given as goal
 
 abbrev pub invariant-loop-number : goal.invariant-loop-number
-invariant-loop-number g l =
-    (g.B.Board.codes l.board ≡ l.position.setup.codes) × (map plain (vec_items l.moves) ≡ legal_below (position_parts l.position) l.number)
+invariant-loop-number g l = record {
+  setup : l.table.setup ≡ l.initial.table.setup;
+  board : l.table.board.ghost_name ≡ l.initial.table.board.ghost_name;
+  moves : map plain (vec_items l.moves) ≡ legal_below (position_parts l.position) l.number;
+}

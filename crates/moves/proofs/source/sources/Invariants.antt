@@ -5,7 +5,10 @@ use Rattle.laws.specs.Position.{position_parts}
 use Rattle.moves.specs.Action.{promotion_number}
 use Rattle.moves.proofs.source.sources.Given as goal
 
-abbrev pub invariant-loop-from : goal.invariant-loop-from
-invariant-loop-from g l =
-    (g.B.Board.codes l.board ≡ l.position.setup.codes) × (length l.found ≡ 64)
-    × ((s : ℕ) → s < l.from → get_or l.found s false ≡ source (position_parts l.position) (number l.kind) l.to.number (promotion_number l.promotion) s)
+abbrev pub invariant-loop-number : goal.invariant-loop-number
+invariant-loop-number g l = record {
+  setup : l.table.setup ≡ l.initial.table.setup;
+  board : l.table.board.ghost_name ≡ l.initial.table.board.ghost_name;
+  size : length l.found ≡ 64;
+  found : (s : ℕ) → s < l.number → get_or l.found s false ≡ source (position_parts l.position) (number l.kind) l.to.number (promotion_number l.promotion) s;
+}

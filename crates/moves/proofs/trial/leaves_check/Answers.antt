@@ -14,20 +14,20 @@ redraw-requires g c =
     let start = c.args.board.now in
     let setup = c.args.setup.now in
     let former : Shown setup.codes = subst Shown c.requires (g.met.B.Board.size start, g.met.B.Board.small start) in
-    let made = shown_after (parts setup) (plain c.args.m) former (promotion_most c.args.m.promotion) in (
-      subst Shown (sym c.codes_after-next.ensures) made,
-      subst₂ (λ (x y : List ℕ). SameBut c.changed-squares.result x y) (sym c.requires) (sym c.codes_after-next.ensures) c.changed-squares.ensures,
-    )
+    let made = shown_after (parts setup) (plain c.args.m) former (promotion_most c.args.m.promotion) in record {
+      shown = subst Shown (sym c.codes_after-next.ensures) made;
+      same = subst₂ (λ (x y : List ℕ). SameBut c.changed-squares.result x y) (sym c.requires) (sym c.codes_after-next.ensures) c.changed-squares.ensures;
+    }
 
 pub redraw-requires-2 : goal.redraw-requires-2
 redraw-requires-2 g c =
     let start = c.args.board.now in
     let setup = c.args.setup.now in
-    let former : Shown setup.codes = subst Shown c.requires (g.met.B.Board.size start, g.met.B.Board.small start) in (
-      former,
-      subst (λ (x : List ℕ). SameBut c.changed-squares.result x setup.codes) (sym (c.redraw.ensures ∙ c.codes_after-next.ensures))
-          (same_turned _ _ _ c.changed-squares.ensures),
-    )
+    let former : Shown setup.codes = subst Shown c.requires (g.met.B.Board.size start, g.met.B.Board.small start) in record {
+      shown = former;
+      same = subst (λ (x : List ℕ). SameBut c.changed-squares.result x setup.codes) (sym (c.redraw.ensures ∙ c.codes_after-next.ensures))
+          (same_turned _ _ _ c.changed-squares.ensures);
+    }
 
 pub returns : goal.returns
 returns g c = record {

@@ -6,10 +6,10 @@ use Rattle.moves.proofs.trial.redraw.Goals as goal
 pub loop-square-preserved : goal.loop-square-preserved
 loop-square-preserved g c =
     put_turn c.args.squares.now (g.B.Board.codes c.loop-square.board) _ c.args.picture.now c.loop-square.square-index (omega arith)
-    (g.met.B.Board.size c.loop-square.board) c.requires.0
+    (g.met.B.Board.size c.loop-square.board) c.requires.shown
     (c.put.ensures.list ∙ ap (put_list (g.B.Board.codes c.loop-square.board) _) c.code_on.ensures) c.loop-square.invariant
 
 pub returns : goal.returns
 returns g c =
     put_end c.args.squares.now (g.B.Board.codes c.loop-square.board) c.args.picture.now c.loop-square.square-index (omega arith)
-    (g.met.B.Board.size c.loop-square.board) c.requires.0 c.loop-square.invariant
+    (g.met.B.Board.size c.loop-square.board) c.requires.shown c.loop-square.invariant

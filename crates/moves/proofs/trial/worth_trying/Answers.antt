@@ -12,4 +12,4 @@ returns-then-found-code c = λ _.
     not_pawn (parts c.args.setup.now) c.args.number _ c.code_on-found.ensures (omega arith) (λ e. c.if-found-code.true (e ∙ sym c.code.ensures))
 
 pub returns : goal.returns
-returns c = λ e. not_last (parts c.args.setup.now) c.args.number _ c.code_on-found.ensures (omega arith) (λ q. eqb-false _ _ e (q ∙ sym c.end_rank.ensures))
+returns c = λ e. not_last (parts c.args.setup.now) c.args.number _ c.code_on-found.ensures (omega arith) (λ q. eqb-false _ _ e (q ∙ sym c.of.ensures.last_rank))
