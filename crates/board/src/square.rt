@@ -12,10 +12,15 @@ pub struct Square {
 
 impl Square {
     pub const A1: Square = Square { number: 0 };
+
     pub const E1: Square = Square { number: 4 };
+
     pub const H1: Square = Square { number: 7 };
+
     pub const A8: Square = Square { number: 56 };
+
     pub const E8: Square = Square { number: 60 };
+
     pub const H8: Square = Square { number: 63 };
 
     /// The square with a number, or none above 63.

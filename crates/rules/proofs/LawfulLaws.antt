@@ -1,8 +1,8 @@
 -- The laws of a position, one by one.
-use Rattle.std.proofs.Common.{◌≡◌, ℕ, zero, suc, ◌+◌, ◌<◌, ◌≤◌, Bool, true, false, cond, eqb, leb, ◌⊎◌, List, [], ◌∷◌, ◌++◌, length, get_or, take, None, refl, ap, ◌∙◌, inl, inr, ⊎_elim, arith}
+use Rattle.std.proofs.Common.{◌≡◌, ℕ, zero, suc, ◌+◌, ◌<◌, ◌≤◌, Bool, true, false, cond, eqb, leb, List, [], ◌∷◌, length, get_or, None, refl, ap, ◌∙◌, ⊎_elim, arith}
 use Rattle.std.proofs.lemmas.List.Sums.{sum_by-cons}
-use Rattle.std.proofs.lemmas.List.{take_more, get_or_past}
-use Rattle.std.proofs.lemmas.Bool.{and_parts, and_from, cases_lt, eqb-true, eq-eqb, leb-true, le-leb, both_ways}
+use Rattle.std.proofs.lemmas.List.{get_or_past}
+use Rattle.std.proofs.lemmas.Bool.{and_parts, and_from, cases_lt, eqb-true, eq-eqb, leb-true, le-leb}
 use Rattle.board.specs.Below.{all_below}
 use Rattle.board.specs.Meaning.{Shown}
 use Rattle.board.proofs.BelowLaws.{all_at, all_from, same_tests}
@@ -47,17 +47,6 @@ pub is_board-list_all : (codes : List ℕ) → length codes ≡ 64 → list_all 
 unfolding is_board
 is_board-list_all codes l = list_all-all_below (λ c. leb c 12) codes ∙ rw l refl
 
--- a code above 12
-pub not_board : (codes : List ℕ) (s : ℕ) → s < 64 → 12 < get_or codes s 0 → is_board codes ≡ false
-not_board codes s h k = ⊎_elim
-    (λ (e : is_board codes ≡ true). absurd (let z = (board_shown codes e).1 s in omega arith))
-    (λ (e : is_board codes ≡ false). e)
-    (cases (is_board codes))
-  where
-    cases : (b : Bool) → (b ≡ true) ⊎ (b ≡ false)
-    cases true = inl refl
-    cases false = inr refl
-
 -- our count is std's
 pub count_by-count : (c : ℕ) (xs : List ℕ) → count_by (λ x. eqb x c) xs ≡ count c xs
 unfolding count
@@ -73,15 +62,6 @@ all_or_first ((false, b) ∷ ls) e = let z : ◌≡◌ {A = ℕ} 0 1 = cc in abs
 pub lawful_from : (p : Parts) → broken p ≡ None → lawful p ≡ true
 unfolding broken lawful
 lawful_from p e = all_or_first (laws p) e
-
-first_or_all : (ls : List (Bool × Breach)) → all_hold ls ≡ true → first_broken ls ≡ None
-first_or_all [] e = refl
-first_or_all ((true, b) ∷ ls) e = first_or_all ls e
-first_or_all ((false, b) ∷ ls) e = absurd (both_ways false refl e)
-
-pub lawful_unbroken : (p : Parts) → lawful p ≡ true → broken p ≡ None
-unfolding broken lawful
-lawful_unbroken p e = first_or_all (laws p) e
 
 pub lawful_board : (p : Parts) → lawful p ≡ true → is_board p.codes ≡ true
 unfolding lawful
