@@ -55,7 +55,8 @@ pub fn checkmate<B: Board>(board: &mut B, position: &Position) -> bool
     ensures list { B.codes board.new ≡ (position_parts position.now).codes }
 {
     position.show(board);
-    in_check(board, position.setup.side) && !can_move(board, position)
+    let setup = &position.setup;
+    in_check(board, setup.side) && !Table { board, setup }.can_move()
 }
 
 /// Whether the side to move is not in check and has no legal move.
@@ -65,7 +66,8 @@ pub fn stalemate<B: Board>(board: &mut B, position: &Position) -> bool
     ensures list { B.codes board.new ≡ (position_parts position.now).codes }
 {
     position.show(board);
-    !in_check(board, position.setup.side) && !can_move(board, position)
+    let setup = &position.setup;
+    !in_check(board, setup.side) && !Table { board, setup }.can_move()
 }
 
 /// The legal moves, in ascending order of their numbers.
