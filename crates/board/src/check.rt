@@ -15,7 +15,7 @@ pub fn in_check<B: Board>(board: &B, side: Side) -> bool
 {
     let king = code(side, Kind::King);
     let enemy = side.other();
-    // A loop: a chain of the squares that hold a king would need a bound of its own to end.
+    // A loop, since the next square to ask from is behind the one found: as a chain (successors) it needs a bound to be known to end.
     let mut from = 0;
     while let Some(square) = board.next(from, king) {
         if board.attacked(enemy, square) {

@@ -21,6 +21,7 @@ const LETTERS: [u8; 13] = *b".PNBRQKpnbrqk";
 
 impl Kind {
     /// The number of the kind, which is the code of the white piece.
+    // A method and not From, as every `number` and `code` here: a call says by its name which number it gives.
     pub fn number(self) -> u8
         ensures number { result ≡ number_of self }
         ensures most { result ≤ 6 }
@@ -50,6 +51,7 @@ pub fn code(side: Side, kind: Kind) -> u8
 pub fn letter(code: u8) -> u8
     ensures { result ≡ lettered code }
 {
+    // 0 for no letter and not an Option: this call answers every number, and a board's codes all have a letter.
     if code > 12 { 0 } else { LETTERS[code as usize] }
 }
 

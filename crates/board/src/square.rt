@@ -24,6 +24,7 @@ impl Square {
     pub const H8: Square = Square { number: 63 };
 
     /// The square with a number, or none above 63.
+    // Not TryFrom: there is no more to say of a number that is none, and callers go on with `?` in an Option.
     pub fn new(number: u8) -> Option<Square>
         ensures { option_map (λ s. s.number) result ≡ (if nat_lt number 64 then Some number else None) }
     {

@@ -96,6 +96,7 @@ pub enum SheetFault {
     InLaws(LawsFault),
 }
 
+// The numbers are methods and not From: they are what a fault is called, and the four differ in each arm.
 impl TextFault {
     /// The number of the fault.
     pub fn number(self) -> u8

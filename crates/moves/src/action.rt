@@ -45,7 +45,7 @@ fn number_of(promotion: Option<Promotion>) -> u8
     promotion.map_or(0, |promotion| Kind::from(promotion).number())
 }
 
-// The promotion with a number, no promotion for 0.
+// The promotion with a number, no promotion for 0. Not TryFrom, which no crate may give of an Option.
 fn numbered(number: u16) -> Option<Option<Promotion>>
     ensures { option_map promotion_number result ≡ (if is_promotion_number number then Some number else None) }
 {

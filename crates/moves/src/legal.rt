@@ -60,6 +60,7 @@ pub fn checkmate<B: Board>(board: &mut B, position: &Position) -> bool
 }
 
 /// Whether the side to move is not in check and has no legal move.
+// Apart from checkmate: one call for both would take a flag that says which.
 #[tactic(auto, unfolding(rules::specs::Legal::stalemate))]
 pub fn stalemate<B: Board>(board: &mut B, position: &Position) -> bool
     ensures answer { result ≡ stalemated (position_parts position.now) }

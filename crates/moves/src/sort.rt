@@ -24,7 +24,7 @@ pub fn moves_rook_too(setup: &Setup, m: Move) -> bool
     setup.holds(setup.side, Kind::King, m.from) && files == 2
 }
 
-// A pawn's move by two ranks.
+// A pawn's move by two ranks. Apart from the king's by two files: one test of a kind and a distance would be no shorter.
 pub(crate) fn steps_twice(setup: &Setup, m: Move) -> bool
     ensures { result ≡ is_double_step (parts setup.now) (plain m) }
 {

@@ -44,6 +44,7 @@ pub fn sources<B: Board>(
     let setup = &position.setup;
     let mut table = Table { board, setup };
     let mut found = [false; 64];
+    // A loop: the closure of a chain may not change the board that it tries moves on.
     for number in 0..64u8 {
         if let Some(from) = Square::new(number) {
             let m = Move {

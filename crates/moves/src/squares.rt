@@ -18,7 +18,7 @@ pub(crate) fn is_own(side: Side, code: u8) -> bool
     }
 }
 
-// The code on a square, 0 off the board.
+// The code on a square, 0 off the board. Apart from `Setup::code_on`, since a step ahead may leave the board.
 pub(crate) fn code_on(codes: &[u8; 64], square: usize) -> u8
     ensures { result ≡ slice_index codes.now square }
 {

@@ -55,7 +55,8 @@ fn redraw<B: Board>(board: &mut B, picture: &[u8; 64], squares: &[u8; 4])
     }
 }
 
-// Whether a move leaves the own king attacked: it is made on the board and taken back.
+// Whether a move leaves the own king attacked: it is made on the board and taken back. Not a table's method, since in between the board
+// does not show the table's position.
 fn leaves_check<B: Board>(board: &mut B, setup: &Setup, m: Move) -> bool
     requires { B.codes board.old ≡ setup.now.codes }
     ensures answer { result ≡ in_check setup.now.side (codes_next (parts setup.now) (plain m)) }
@@ -121,6 +122,7 @@ impl<'b, 's, B: Board> Table<'b, 's, B> {
         ensures answer { result ≡ can_move (parts self.old.setup.now) }
         ensures kept { Keeps self.old self.new }
     {
+        // A loop: the closure of a chain may not change the board that it tries moves on.
         for number in 0..24576u16 {
             if self.legal_numbered(number).is_some() {
                 return true;
