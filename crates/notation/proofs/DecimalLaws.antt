@@ -1,8 +1,11 @@
 -- The laws of decimal numbers: what is written reads back, and what is read was written so.
-use Rattle.std.proofs.Common.{◌≡◌, ℕ, zero, suc, ◌+◌, ◌-◌, ◌*◌, ◌/◌, ◌%◌, ◌^◌, ◌<◌, ◌≤◌, true, false, eqb, List, [], ◌∷◌, ◌++◌, length, drop, set, Some, sym, refl, ap, ◌∙◌, ⊎_elim, append_assoc, arith}
-use native.Mathlib.Nat.{pow-succ'}
-use Rattle.std.proofs.lemmas.List.{drop-set}
-use Rattle.std.proofs.lemmas.Bool.{lt-ltb, le-ltb, le-leb, ne_eqb, eqb-true, eqb-false, leb-true, and_from, and_parts, cases_lt, cases_Bool}
+use Rattle.std.proofs.Common.{◌≡◌, ℕ, zero, suc, ◌+◌, ◌-◌, ◌*◌, ◌/◌, ◌%◌, ◌^◌, ◌<◌, ◌≤◌, true, false, eqb, List, [], ◌∷◌, ◌++◌, length, get_or, take, drop, slice_range, Some, None, sym, refl, ap, ◌∙◌, subst, ⊎_elim, append_assoc, length-append, arith}
+use Rattle.std.proofs.lemmas.List.{take-append-drop, drop_at}
+use Rattle.std.proofs.lemmas.Slice.{between_to_end}
+use Rattle.std.specs.Fmt.{decimal}
+use Rattle.std.proofs.lemmas.Fmt.{decimal_by_steps}
+use Rattle.std.proofs.lemmas.Bool.{lt-ltb, le-ltb, le-leb, eq-eqb, ne_eqb, eqb-true, eqb-false, leb-true, and_from, and_parts, cases_lt, cases_Bool}
+use Rattle.std.proofs.lemmas.Bool.Decides.{nat_tests}
 use Rattle.notation.specs.Decimal.{digits_in, digits, is_digit, starts_digit, capped, read_digits, read_number}
 
 -- enough fuel is enough
@@ -144,22 +147,83 @@ number_only (b ∷ t) v rest e l =
     (λ (s : is_digit b ≡ false). let e' = rw (z, s) at e in absurd (let z : ◌≡◌ {A = ℕ} 0 1 = cc in omega arith)) (cases_Bool (is_digit b)))
     (cases_Bool (eqb b 48))
 
--- the digits of a number are laid from the last to the first
-pub laid_below : (n f : ℕ) → n < 10 ^ (f + 1) → 10 ≤ n → (1 ≤ f) × (n / 10 < 10 ^ (f - 1 + 1))
-laid_below n zero h l = absurd (omega arith)
-laid_below n (suc f) h l =
-    let a : suc f + 1 ≡ suc (suc f) = omega arith in
-    let b : suc f - 1 + 1 ≡ suc f = omega arith in
-    let h' : n < 10 ^ suc (suc f) = rw a at h in
-    let p = pow-succ' 10 (suc f) in
-    (omega arith, rw b (omega arith))
+-- the digits of a number are those that std writes
+pub digits_decimal : (n : ℕ) → n < 2 ^ 64 → decimal n ≡ digits n
+digits_decimal = decimal_by_steps (λ m ds. ds ≡ digits m) (λ m l. sym (digits_one m l)) (λ m ds l h. ap (λ x. x ++ ((48 + m % 10) ∷ [])) h ∙ sym (digits_more m l))
 
-pub laid_more : (n rest f : ℕ) (bytes : List ℕ) → 1 ≤ f → f < length bytes → 10 ≤ rest → digits n ≡ digits rest ++ drop (f + 1) bytes →
-    digits n ≡ digits (rest / 10) ++ drop (f - 1 + 1) (set bytes f (48 + rest % 10))
-laid_more n rest f bytes p h l e =
-    let b : f - 1 + 1 ≡ f = omega arith in
-    rw b (e ∙ ap (λ x. x ++ drop (f + 1) bytes) (digits_more rest l) ∙ append_assoc (digits (rest / 10)) ((48 + rest % 10) ∷ []) (drop (f + 1) bytes)
-    ∙ ap (λ x. digits (rest / 10) ++ x) (sym (drop-set bytes f (48 + rest % 10) h)))
+no_digit : (b : ℕ) → (48 ≤ b → b ≤ 57 → ⊥) → is_digit b ≡ false
+no_digit b h = grind (arith, nat_tests)
 
-pub laid_last : (n rest f : ℕ) (bytes : List ℕ) → f < length bytes → rest < 10 → digits n ≡ digits rest ++ drop (f + 1) bytes → drop f (set bytes f (48 + rest)) ≡ digits n
-laid_last n rest f bytes h l e = drop-set bytes f (48 + rest) h ∙ sym (e ∙ ap (λ x. x ++ drop (f + 1) bytes) (digits_one rest l))
+-- digits are read one by one, up to another byte or the end
+pub digits_first : (v : ℕ) (t : List ℕ) → 1 ≤ length t → 48 ≤ get_or t 0 0 → get_or t 0 0 ≤ 57 →
+    read_digits v t ≡ read_digits (capped (10 * v + (get_or t 0 0 - 48))) (drop 1 t)
+digits_first v [] h l m = absurd (omega arith)
+digits_first v (b ∷ t) h l m = digits_step v b t (and_from _ _ (le-leb 48 b l) (le-leb b 57 m))
+
+pub digits_last : (v : ℕ) (t : List ℕ) → (1 ≤ length t → 48 ≤ get_or t 0 0 → get_or t 0 0 ≤ 57 → ⊥) → read_digits v t ≡ (v, t)
+digits_last v [] h = digits_end v [] refl
+digits_last v (b ∷ t) h = digits_end v (b ∷ t) (no_digit b (h (omega arith)))
+
+-- a number by its first bytes
+pub number_zeros : (t : List ℕ) → 2 ≤ length t → get_or t 0 0 ≡ 48 → 48 ≤ get_or t 1 0 → get_or t 1 0 ≤ 57 → read_number t ≡ None
+unfolding read_number
+number_zeros [] h e l m = absurd (omega arith)
+number_zeros (b ∷ []) h e l m = absurd (omega arith)
+number_zeros (b ∷ d ∷ t) h e l m = rw (eq-eqb b 48 e, le-leb 48 d l, le-leb d 57 m)
+
+pub number_zero : (t : List ℕ) → 1 ≤ length t → get_or t 0 0 ≡ 48 → (2 ≤ length t → 48 ≤ get_or t 1 0 → get_or t 1 0 ≤ 57 → ⊥) → read_number t ≡ Some (0, drop 1 t)
+unfolding read_number
+number_zero [] h e l = absurd (omega arith)
+number_zero (b ∷ []) h e l = rw (eq-eqb b 48 e)
+number_zero (b ∷ d ∷ t) h e l = rw (eq-eqb b 48 e, no_digit d (l (omega arith)))
+
+pub number_digits : (t : List ℕ) → 1 ≤ length t → 49 ≤ get_or t 0 0 → get_or t 0 0 ≤ 57 → read_number t ≡ Some (read_digits 0 t)
+unfolding read_number
+number_digits [] h l m = absurd (omega arith)
+number_digits (b ∷ t) h l m = rw (ne_eqb b 48 (λ e. omega arith), le-leb 48 b (omega arith), le-leb b 57 m)
+
+pub number_none : (t : List ℕ) → (1 ≤ length t → 48 ≤ get_or t 0 0 → get_or t 0 0 ≤ 57 → ⊥) → read_number t ≡ None
+unfolding read_number
+number_none [] h = refl
+number_none (b ∷ t) h = let n = no_digit b (h (omega arith)) in rw (ne_eqb b 48 (λ e. h (omega arith) (omega arith) (omega arith)), n)
+
+-- a number leaves the end of a text
+pub record Ends (t rest : List ℕ) : Type 0 where
+  pub front : List ℕ
+  pub is : t ≡ front ++ rest
+
+digits_leave : (t : List ℕ) (v : ℕ) → Ends t (read_digits v t).1
+digits_leave [] v = rw (digits_end v [] refl) (record { front = []; is = refl })
+digits_leave (b ∷ t) v =
+    ⊎_elim (λ (d : is_digit b ≡ true).
+    let e = digits_leave t (capped (10 * v + (b - 48))) in
+    rw (digits_step v b t d) (record { front = b ∷ e.front; is = ap (λ x. b ∷ x) e.is }))
+    (λ (d : is_digit b ≡ false). rw (digits_end v (b ∷ t) d) (record { front = []; is = refl })) (cases_Bool (is_digit b))
+
+pub number_leaves : (t : List ℕ) (v : ℕ) (rest : List ℕ) → Some (v, rest) ≡ read_number t → Ends t rest
+unfolding read_number
+number_leaves [] v rest e = cc
+number_leaves (b ∷ t) v rest e =
+    ⊎_elim (λ (z : eqb b 48 ≡ true).
+    ⊎_elim (λ (s : starts_digit t ≡ true). let e' = rw (z, s) at e in cc)
+    (λ (s : starts_digit t ≡ false). let e' = rw (z, s) at e in let f : ◌≡◌ {A = ℕ × List ℕ} (v, rest) (0, t) = cc in record { front = b ∷ []; is = ap (λ (x : ℕ × List ℕ). b ∷ x.1) (sym f) }) (cases_Bool (starts_digit t)))
+    (λ (z : eqb b 48 ≡ false).
+    ⊎_elim (λ (s : is_digit b ≡ true). let e' = rw (z, s) at e in let f : rest ≡ (read_digits 0 (b ∷ t)).1 = cc in subst (λ x. Ends (b ∷ t) x) (sym f) (digits_leave (b ∷ t) 0))
+    (λ (s : is_digit b ≡ false). let e' = rw (z, s) at e in cc) (cases_Bool (is_digit b)))
+    (cases_Bool (eqb b 48))
+
+-- a number at a place, and the place behind it
+pub record NumberAt (t : List ℕ) (at v : ℕ) (rest : List ℕ) : Type 0 where
+  pub fits : length rest ≤ length t
+  pub is : Some (v, drop (length t - length rest) t) ≡ read_number (drop at t)
+
+pub number_at : (t : List ℕ) (at : ℕ) (part : List ℕ) (v : ℕ) (rest : List ℕ) → part ≡ slice_range t at (length t) → Some (v, rest) ≡ read_number part → NumberAt t at v rest
+number_at t at part v rest p r =
+    let e = number_leaves part v rest r in
+    let d : part ≡ drop at t = p ∙ between_to_end t at (length t) (omega arith) in
+    let w : t ≡ (take at t ++ e.front) ++ rest =
+    sym (take-append-drop at t) ∙ ap (λ x. take at t ++ x) (sym d ∙ e.is) ∙ sym (append_assoc (take at t) e.front rest) in
+    let l : length t ≡ length (take at t ++ e.front) + length rest = ap length w ∙ length-append (take at t ++ e.front) rest in
+    let k : drop (length t - length rest) t ≡ rest =
+    ap (drop (length t - length rest)) w ∙ drop_at (take at t ++ e.front) rest (length t - length rest) (omega arith) in
+    record { fits = omega arith; is = ap (λ x. Some (v, x)) k ∙ r ∙ ap read_number d }

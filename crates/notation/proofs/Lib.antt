@@ -1,4 +1,3 @@
-pub mod Fronts
 pub mod DecimalLaws
 pub mod RankSteps
 pub mod RankLaws
@@ -7,3 +6,4 @@ pub mod FenLaws
 pub mod StartLaws
 pub mod Laying
 pub mod WriteLaws
+pub mod Readers

@@ -1,6 +1,6 @@
 -- One byte more of a rank.
-use Rattle.std.proofs.Common.{◌≡◌, ℕ, suc, ◌+◌, ◌-◌, ◌*◌, ◌<◌, ◌≤◌, Bool, true, false, ◌&&◌, ◌||◌, ltb, ◌⊎◌, List, [], ◌∷◌, ◌++◌, length, get_or, take, drop, set, replicate, Some, None, sym, refl, ap, ◌∙◌, ⊎_elim, arith, length-append, take-add}
-use Rattle.std.proofs.lemmas.List.{drop-drop, drop-replicate, take-replicate, take_more_set, drop-set-lt, length-take-le, length-replicate, length-set, length-drop, take_all, drop_at, drop_more, drop_all}
+use Rattle.std.proofs.Common.{◌≡◌, ℕ, suc, ◌+◌, ◌-◌, ◌*◌, ◌<◌, ◌≤◌, Bool, true, false, ◌&&◌, ◌||◌, ltb, List, [], ◌∷◌, ◌++◌, length, take, drop, replicate, Some, None, sym, refl, ap, ◌∙◌, arith, length-append}
+use Rattle.std.proofs.lemmas.List.{take-replicate, length-take-le, length-replicate, length-drop, drop_at}
 use Rattle.std.proofs.lemmas.Bool.{or_right, and_right, le-leb, lt-leb, lt-ltb, le-ltb}
 use Rattle.board.specs.Piece.{code_of_letter}
 use borrow.Rule.Slice.PartMut.{put_mid, post_of, Post-is}
@@ -39,119 +39,66 @@ piece_squares b c e f = rw (e, f)
 pub no_squares : (b : ℕ) → is_gap b ≡ false → code_of_letter b ≡ None → squares b ≡ None
 no_squares b e f = rw (e, f)
 
--- a rank that is filled up to a file, with the other squares empty, and what is left of its text
-pub record Filled (t : List ℕ) (from : ℕ) (codes : List ℕ) (file at : ℕ) (after : Bool) : Type 0 where
-  pub within : file ≤ 8
-  pub size : length codes ≡ 8
-  pub empty : drop file codes ≡ replicate (8 - file) 0
-  pub left : read_rank after (take file codes) (drop at t) ≡ read_rank false [] (drop from t)
+-- one byte of a rank that is not full
+pub rank_end_early : (digit : Bool) (codes t : List ℕ) → length codes < 8 → length t ≡ 0 → read_rank digit codes t ≡ None
+rank_end_early digit codes [] h e = rank_short digit codes h
+rank_end_early digit codes (b ∷ t) h e = absurd (omega arith)
 
-pub filled_none : (t : List ℕ) (from : ℕ) → Filled t from (replicate 8 0) 0 from false
-filled_none t from = record { within = omega arith; size = refl; empty = refl; left = refl }
+pub rank_twice : (codes : List ℕ) (b : ℕ) (t : List ℕ) → length codes < 8 → is_gap b ≡ true → read_rank true codes (b ∷ t) ≡ None
+rank_twice codes b t h g = rank_refused true codes b t _ h (gap_squares b g) (rw g)
 
-pub filled_all : {t : List ℕ} {from : ℕ} {codes : List ℕ} {file at : ℕ} {after : Bool} → Filled t from codes file at after → 8 ≤ file →
-    Some (codes, drop at t) ≡ read_rank false [] (drop from t)
-filled_all {t} {from} {codes} {file} {at} {after} f h =
-    let s = f.size in
-    let e : take file codes ≡ codes = take_all file codes (omega arith) in
-    let l = f.left in
-    sym (rank_full after codes (drop at t) (omega arith)) ∙ ap (λ x. read_rank after x (drop at t)) (sym e) ∙ l
+pub rank_wide : (digit : Bool) (codes : List ℕ) (b : ℕ) (t : List ℕ) → length codes < 8 → is_gap b ≡ true → 8 < length codes + (b - 48) → read_rank digit codes (b ∷ t) ≡ None
+rank_wide digit codes b t h g w =
+    rank_refused digit codes b t _ h (gap_squares b g)
+    (or_right (digit && is_gap b) _ (lt-ltb 8 (length (codes ++ replicate (b - 48) 0)) (rw (length-append, length-replicate) w)))
 
-module _ {t : List ℕ} {from : ℕ} {codes : List ℕ} {file at : ℕ} {after : Bool} (f : Filled t from codes file at after) (h : file < 8) where
-  short : length (take file codes) < 8
-  short = let s = f.size in let e = length-take-le file codes (omega arith) in omega arith
+pub rank_other : (digit : Bool) (codes : List ℕ) (b : ℕ) (t : List ℕ) → length codes < 8 → is_gap b ≡ false → code_of_letter b ≡ None → read_rank digit codes (b ∷ t) ≡ None
+rank_other digit codes b t h g n = rank_none digit codes b t h (no_squares b g n)
 
-  pub filled_end : length t ≤ at → None ≡ read_rank false [] (drop from t)
-  filled_end l = sym (ap (read_rank after (take file codes)) (drop_all at t l) ∙ rank_short after (take file codes) short) ∙ f.left
+pub rank_gap : (codes : List ℕ) (b : ℕ) (t : List ℕ) → length codes < 8 → is_gap b ≡ true → length codes + (b - 48) ≤ 8 →
+    read_rank false codes (b ∷ t) ≡ read_rank true (codes ++ take (b - 48) (replicate 8 0)) t
+rank_gap codes b t h g w =
+    let e : take (b - 48) (replicate 8 0) ≡ replicate (b - 48) 0 = take-replicate (b - 48) 8 0 (omega arith) in
+    rank_more false codes b t (replicate (b - 48) 0) h (gap_squares b g) refl (rw (length-append, length-replicate) w)
+    ∙ ap (λ x. read_rank x (codes ++ replicate (b - 48) 0) t) g ∙ ap (λ x. read_rank true (codes ++ x) t) (sym e)
 
-  module _ (l : at < length t) where
-    here : read_rank after (take file codes) (get_or t at 0 ∷ drop (at + 1) t) ≡ read_rank false [] (drop from t)
-    here = sym (ap (read_rank after (take file codes)) (drop_more t at 0 l)) ∙ f.left
-
-    pub filled_other : is_gap (get_or t at 0) ≡ false → code_of_letter (get_or t at 0) ≡ None → None ≡ read_rank false [] (drop from t)
-    filled_other g e = sym (rank_none after (take file codes) _ _ short (no_squares (get_or t at 0) g e)) ∙ here
-
-    pub filled_refused : is_gap (get_or t at 0) ≡ true → (after ≡ true) ⊎ (8 < file + (get_or t at 0 - 48)) → None ≡ read_rank false [] (drop from t)
-    filled_refused g r =
-        sym (rank_refused after (take file codes) (get_or t at 0) (drop (at + 1) t) _ short (gap_squares (get_or t at 0) g) test) ∙ here
-      where
-        test : ((after && is_gap (get_or t at 0)) || ltb 8 (length (take file codes ++ replicate (get_or t at 0 - 48) 0))) ≡ true
-        test =
-            ⊎_elim (λ (a : after ≡ true). rw (a, g))
-            (λ (b : 8 < file + (get_or t at 0 - 48)).
-            let s = f.size in
-            let e = length-take-le file codes (omega arith) in
-            or_right (after && is_gap (get_or t at 0)) _ (lt-ltb 8 (length (take file codes ++ replicate (get_or t at 0 - 48) 0)) (rw (length-append, length-replicate) (omega arith)))) r
-
-    pub filled_gap : is_gap (get_or t at 0) ≡ true → after ≡ false → file + (get_or t at 0 - 48) ≤ 8 → Filled t from codes (file + (get_or t at 0 - 48)) (at + 1) true
-    filled_gap g a b =
-        let n = get_or t at 0 - 48 in
-        let s = f.size in
-        let e = length-take-le file codes (omega arith) in
-        let sum : take (file + n) codes ≡ take file codes ++ replicate n 0 = take-add file n codes ∙ ap (λ x. take file codes ++ x) (ap (take n) f.empty ∙ take-replicate n (8 - file) 0 (omega arith)) in
-        let few : length (take file codes ++ replicate n 0) ≤ 8 = rw (length-append, length-replicate) (omega arith) in
-        let k : (8 - file) - n ≡ 8 - (file + n) = omega arith in
-        let ga : (after && is_gap (get_or t at 0)) ≡ false = rw a in
-        record {
-          within = b;
-          size = s;
-          empty = sym (drop-drop n file codes) ∙ ap (drop n) f.empty ∙ drop-replicate n (8 - file) 0 ∙ ap (λ x. replicate x 0) k;
-          left = ap (λ x. read_rank true x (drop (at + 1) t)) sum ∙ ap (λ x. read_rank x (take file codes ++ replicate n 0) (drop (at + 1) t)) (sym g)
-              ∙ sym (rank_more after (take file codes) (get_or t at 0) (drop (at + 1) t) _ short (gap_squares (get_or t at 0) g) ga few) ∙ here;
-        }
-
-    pub filled_piece : (c : ℕ) → is_gap (get_or t at 0) ≡ false → code_of_letter (get_or t at 0) ≡ Some c → Filled t from (set codes file c) (file + 1) (at + 1) false
-    filled_piece c g e =
-        let s = f.size in
-        let m = length-take-le file codes (omega arith) in
-        let sum : take (file + 1) (set codes file c) ≡ take file codes ++ (c ∷ []) = take_more_set codes file c (omega arith) in
-        let few : length (take file codes ++ (c ∷ [])) ≤ 8 = rw length-append (omega arith) in
-        let k : (8 - file) - 1 ≡ 8 - (file + 1) = omega arith in
-        let ga : (after && is_gap (get_or t at 0)) ≡ false = rw g (and_right after false refl) in
-        record {
-          within = omega arith;
-          size = length-set codes file c ∙ s;
-          empty = drop-set-lt (file + 1) codes file c (omega arith) ∙ sym (drop-drop 1 file codes) ∙ ap (drop 1) f.empty ∙ drop-replicate 1 (8 - file) 0 ∙ ap (λ x. replicate x 0) k;
-          left = ap (λ x. read_rank false x (drop (at + 1) t)) sum ∙ ap (λ x. read_rank x (take file codes ++ (c ∷ [])) (drop (at + 1) t)) (sym g)
-              ∙ sym (rank_more after (take file codes) (get_or t at 0) (drop (at + 1) t) _ short (piece_squares (get_or t at 0) c g e) ga few) ∙ here;
-        }
+pub rank_piece : (digit : Bool) (codes : List ℕ) (b c : ℕ) (t : List ℕ) → length codes < 8 → is_gap b ≡ false → code_of_letter b ≡ Some c →
+    read_rank digit codes (b ∷ t) ≡ read_rank false (codes ++ (c ∷ [])) t
+rank_piece digit codes b c t h g s =
+    rank_more digit codes b t (c ∷ []) h (piece_squares b c g s) (and_right digit (is_gap b) g) (rw length-append (omega arith))
+    ∙ ap (λ x. read_rank x (codes ++ (c ∷ [])) t) g
 
 -- a board that is filled down to a rank, and what is left of its text
-pub record Ranked (t : List ℕ) (from : ℕ) (codes : List ℕ) (row at : ℕ) : Type 0 where
+pub record Ranked (t codes : List ℕ) (row : ℕ) (rest : List ℕ) : Type 0 where
   pub within : row ≤ 8
   pub size : length codes ≡ 64
-  pub left : read_ranks row (drop (8 * row) codes) (drop at t) ≡ read_ranks 8 [] (drop from t)
+  pub left : read_ranks row (drop (8 * row) codes) rest ≡ read_ranks 8 [] t
 
-pub ranked_none : (t : List ℕ) (from : ℕ) → Ranked t from (replicate 64 0) 8 from
-ranked_none t from = record { within = omega arith; size = refl; left = refl }
+pub ranked_none : (t : List ℕ) → Ranked t (replicate 64 0) 8 t
+ranked_none t = record { within = omega arith; size = refl; left = refl }
 
-pub ranked_all : {t : List ℕ} {from : ℕ} {codes : List ℕ} {row at : ℕ} → Ranked t from codes row at → row ≤ 0 → Some (codes, drop at t) ≡ read_ranks 8 [] (drop from t)
+pub ranked_all : {t codes : List ℕ} {row : ℕ} {rest : List ℕ} → Ranked t codes row rest → row ≤ 0 → Some (codes, rest) ≡ read_ranks 8 [] t
 unfolding read_ranks
-ranked_all {t} {from} {codes} {row} {at} f h =
-    let z : row ≡ 0 = omega arith in
-    ap (λ n. read_ranks n (drop (8 * n) codes) (drop at t)) (sym z) ∙ f.left
+ranked_all {t} {codes} {row} {rest} f h = let z : row ≡ 0 = omega arith in ap (λ n. read_ranks n (drop (8 * n) codes) rest) (sym z) ∙ f.left
 
-module _ {t : List ℕ} {from : ℕ} {codes : List ℕ} {row at : ℕ} (f : Ranked t from codes row at) (h : 0 < row) where
-  above : List ℕ
-  above = drop (8 * row) codes
+module _ {t codes : List ℕ} {row : ℕ} {rest : List ℕ} (f : Ranked t codes row rest) (h : 0 < row) where
+  next : read_ranks (suc (row - 1)) (drop (8 * row) codes) rest ≡ read_ranks 8 [] t
+  next = let e : suc (row - 1) ≡ row = omega arith in ap (λ n. read_ranks n (drop (8 * row) codes) rest) e ∙ f.left
 
-  next : read_ranks (suc (row - 1)) (drop (8 * row) codes) (drop at t) ≡ read_ranks 8 [] (drop from t)
-  next = let e : suc (row - 1) ≡ row = omega arith in ap (λ n. read_ranks n (drop (8 * row) codes) (drop at t)) e ∙ f.left
-
-  pub ranked_broken : None ≡ read_rank false [] (drop at t) → None ≡ read_ranks 8 [] (drop from t)
+  pub ranked_broken : None ≡ read_rank false [] rest → None ≡ read_ranks 8 [] t
   unfolding read_ranks
   ranked_broken e = ap (λ r. then (behind (rank_end (row - 1)) r) (λ squares rest. read_ranks (row - 1) (squares ++ drop (8 * row) codes) rest)) e ∙ next
 
-  module _ {squares : List ℕ} {behind-it : List ℕ} (e : Some (squares, behind-it) ≡ read_rank false [] (drop at t)) where
-    ended : then (with squares (past (rank_end (row - 1)) (behind-it))) (λ squares rest. read_ranks (row - 1) (squares ++ drop (8 * row) codes) rest) ≡ read_ranks 8 [] (drop from t)
+  module _ {squares : List ℕ} {behind-it : List ℕ} (e : Some (squares, behind-it) ≡ read_rank false [] rest) where
+    ended : then (with squares (past (rank_end (row - 1)) (behind-it))) (λ squares rest. read_ranks (row - 1) (squares ++ drop (8 * row) codes) rest) ≡ read_ranks 8 [] t
     unfolding read_ranks
     ended = ap (λ r. then (behind (rank_end (row - 1)) r) (λ squares rest. read_ranks (row - 1) (squares ++ drop (8 * row) codes) rest)) e ∙ next
 
-    pub ranked_unended : None ≡ past (rank_end (row - 1)) (behind-it) → None ≡ read_ranks 8 [] (drop from t)
+    pub ranked_unended : None ≡ past (rank_end (row - 1)) (behind-it) → None ≡ read_ranks 8 [] t
     ranked_unended g = ap (λ r. then (with squares r) (λ squares rest. read_ranks (row - 1) (squares ++ drop (8 * row) codes) rest)) g ∙ ended
 
-    pub ranked_more : (part : List ℕ) (last : ℕ) → part ≡ squares → length part ≡ 8 → Some (drop last t) ≡ past (rank_end (row - 1)) (behind-it) →
-        Ranked t from (put_mid (8 * (row - 1)) (8 * (row - 1) + 8 - 8 * (row - 1)) codes part) (row - 1) last
+    pub ranked_more : (part last : List ℕ) → part ≡ squares → length part ≡ 8 → Some last ≡ past (rank_end (row - 1)) (behind-it) →
+        Ranked t (put_mid (8 * (row - 1)) (8 * (row - 1) + 8 - 8 * (row - 1)) codes part) (row - 1) last
     ranked_more part last p l g =
         let s = f.size in
         let w = f.within in
@@ -163,6 +110,6 @@ module _ {t : List ℕ} {from : ℕ} {codes : List ℕ} {row at : ℕ} (f : Rank
         record {
           within = omega arith;
           size = length-append (take a codes) (part ++ post_of a (a + 8 - a) codes) ∙ ap (λ n. length (take a codes) + n) (length-append part (post_of a (a + 8 - a) codes) ∙ ap (λ x. length part + length x) post ∙ ap (λ n. length part + n) (length-drop (8 * row) codes)) ∙ omega arith;
-          left = ap (λ x. read_ranks (row - 1) x (drop last t)) d
+          left = ap (λ x. read_ranks (row - 1) x last) d
               ∙ ap (λ r. then (with squares r) (λ squares rest. read_ranks (row - 1) (squares ++ drop (8 * row) codes) rest)) g ∙ ended;
         }

@@ -1,6 +1,7 @@
 -- Readers: each takes a value from the front of a text and leaves the rest, or finds none.
 use Rattle.std.specs.Prelude.{ℕ, cond, List, [], ◌∷◌, drop, Some, None, Option, ◌==◌}
 use Rattle.std.specs.Option.{option_map}
+use Rattle.std.specs.Borrow.{Bor}
 
 -- a value, and then what follows from it
 abbrev pub on : {V W : Type 0} → Option V → (V → Option W) → Option W
@@ -29,3 +30,8 @@ behind byte r = then r (λ v t. with v (past byte t))
 abbrev pub rest_of : {U V : Type 0} → (U → V) → List ℕ → Option (U × ℕ) → Option (V × List ℕ)
 rest_of f t None = None
 rest_of f t (Some x) = Some (f x.0, drop x.1 t)
+
+-- a value with the rest as the code has them, where f says what the value is
+abbrev pub read_as : {U V : Type 0} → (U → V) → Option (U × Bor (List ℕ)) → Option (V × List ℕ)
+read_as f None = None
+read_as f (Some x) = Some (f x.0, x.1.now)

@@ -1,56 +1,41 @@
 //! Decimal numbers.
 ghost use Rattle.std.specs.Prelude.{◌≡◌, ◌<◌, ◌≤◌, length, drop};
-ghost use Rattle.notation.specs.Decimal.{digits as digits_of, is_digit, starts_digit, read_digits, read_number};
-ghost use Rattle.notation.specs.Reader.{rest_of};
+ghost use Rattle.notation.specs.Decimal.{digits as digits_of, read_digits, read_number};
+ghost use Rattle.notation.specs.Reader.{read_as, rest_of};
 
-/// Whether a byte is a digit.
-fn is_digit(byte: u8) -> bool
-    ensures { result ≡ is_digit byte }
-{
-    b'0' <= byte && byte <= b'9'
-}
-
-/// Whether a digit stands at a place.
-fn digit_at(text: &[u8], at: usize) -> bool
-    ensures { result ≡ starts_digit (drop at text.now) }
-{
-    if at < text.len() {
-        is_digit(text[at])
-    } else {
-        false
-    }
-}
-
-/// The value of the digits from a place on, and the place behind them; a value above 65,535 comes as 65,535.
-fn value(text: &[u8], from: usize) -> (u16, usize)
-    ensures { (result.0, drop result.1 text.now) ≡ read_digits 0 (drop from text.now) }
+/// The value of the digits in front, and the rest; a value above 65,535 comes as 65,535.
+fn value(text: &[u8]) -> (u16, &[u8])
+    ensures { (result.0, result.1.now) ≡ read_digits 0 text.now }
 {
     let mut sum: u16 = 0;
-    let mut at = from;
-    while digit_at(text, at) {
+    let mut rest = text;
+    while let [digit @ b'0'..=b'9', behind @ ..] = rest {
         sum = sum
             .saturating_mul(10)
-            .saturating_add((text[at] - b'0') as u16);
-        at += 1;
+            .saturating_add(u16::from(digit - b'0'));
+        rest = behind;
     }
-    (sum, at)
+    (sum, rest)
+}
+
+/// The number in front, and the rest; none where no digit stands there, or a leading zero.
+pub(crate) fn front(text: &[u8]) -> Option<(u16, &[u8])>
+    ensures { read_as (λ n. n) result ≡ read_number text.now }
+{
+    match text {
+        [b'0', b'0'..=b'9', ..] => None,
+        [b'0', rest @ ..] => Some((0, rest)),
+        [b'1'..=b'9', ..] => Some(value(text)),
+        _ => None,
+    }
 }
 
 /// The number at a place, and the place behind it; none where no digit stands there, or a leading zero.
 pub fn number(text: &[u8], at: usize) -> Option<(u16, usize)>
     ensures { rest_of (λ n. n) text.now result ≡ read_number (drop at text.now) }
 {
-    if !digit_at(text, at) {
-        return None;
-    }
-    if text[at] == b'0' {
-        return if digit_at(text, at + 1) {
-            None
-        } else {
-            Some((0, at + 1))
-        };
-    }
-    Some(value(text, at))
+    let (value, rest) = front(text.get(at..)?)?;
+    Some((value, text.len() - rest.len()))
 }
 
 /// The digits of a number, at the end of an array.
@@ -62,25 +47,20 @@ pub struct Digits {
 }
 
 impl Digits {
+    ghost use Rattle.notation.specs.Written.{digits_shown};
+
     /// The digits of a number, with no leading zero.
     pub fn of(number: u64) -> Digits
-        ensures { drop result.from result.bytes ≡ digits_of number }
+        ensures { digits_shown result ≡ digits_of number }
     {
         let mut bytes = [0; 20];
-        let mut from = 19;
-        let mut rest = number;
-        while rest >= 10 {
-            bytes[from] = b'0' + (rest % 10) as u8;
-            rest /= 10;
-            from -= 1;
-        }
-        bytes[from] = b'0' + rest as u8;
+        let from = itoa::write_digits(number, &mut bytes, 20);
         Digits { bytes, from }
     }
 
     /// The digits as text.
     pub fn text(&self) -> &[u8]
-        ensures value { result.now ≡ drop self.now.from self.now.bytes }
+        ensures value { result.now ≡ digits_shown self.now }
         ensures few { length result.now ≤ 20 }
     {
         &self.bytes[self.from..]

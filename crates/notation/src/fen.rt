@@ -9,6 +9,7 @@ ghost use Rattle.notation.specs.Fen.{fen as fen_of, fen_parts, ReadsBack, OnlyFe
 ghost use Rattle.notation.specs.Answers.{setup_parts, start_parts, start_answer, write_answer, written_over};
 
 use crate::decimal;
+use crate::fen::fields::spaced;
 use board::Board;
 use faults::{NotationFault, SheetFault};
 use laws::position::Position;
@@ -23,17 +24,13 @@ mod placement;
 fn setup(text: &[u8]) -> Option<Setup>
     ensures { option_map parts result ≡ fen_parts text.now }
 {
-    let (codes, behind_codes) = placement::placement(text, 0)?;
-    let (side, behind_side) = fields::side(text, behind_codes)?;
-    let (rights, behind_rights) = fields::rights(text, behind_side)?;
-    let (en_passant, behind_square) = fields::en_passant(text, behind_rights)?;
-    let (clock, behind_clock) = decimal::number(text, behind_square)?;
-    let last = fields::past(text, behind_clock, b' ')?;
-    let (number, end) = decimal::number(text, last)?;
-    if end < text.len() {
-        return None;
-    }
-    Some(Setup {
+    let (codes, rest) = placement::placement(text)?;
+    let (side, rest) = spaced(fields::side(rest))?;
+    let (rights, rest) = spaced(fields::rights(rest))?;
+    let (en_passant, rest) = spaced(fields::en_passant(rest))?;
+    let (clock, rest) = spaced(decimal::front(rest))?;
+    let (number, rest) = decimal::front(rest)?;
+    rest.is_empty().then_some(Setup {
         codes,
         side,
         rights,

@@ -1,67 +1,65 @@
-//! Reading the fields of FEN behind the piece placement, each with the place behind it.
-ghost use Rattle.std.specs.Prelude.{◌≡◌, ◌<◌, drop, IfSome};
-ghost use Rattle.std.specs.Option.{option_map};
+//! Reading the fields of FEN behind the piece placement, each with the rest behind it.
+ghost use Rattle.std.specs.Prelude.{◌≡◌};
+ghost use Rattle.std.specs.Option.{option_map, option_copied};
 ghost use Rattle.laws.specs.Setup.{square_number};
-ghost use Rattle.notation.specs.Reader.{past as behind_byte, behind, rest_of};
-ghost use Rattle.notation.specs.Fields.{no_right, read_side, read_right, read_castling, read_rights, read_eighth, read_square, read_en_passant};
+ghost use Rattle.notation.specs.Reader.{past as behind_byte, behind, read_as};
+ghost use Rattle.notation.specs.Fields.{no_right, read_side, read_right, read_castling, read_rights, read_en_passant};
 
 use board::side::Side;
 use board::square::Square;
 use rules::rights::{Castling, Rights};
 
-/// The place behind a byte that must stand at a place.
-pub(crate) fn past(text: &[u8], at: usize, byte: u8) -> Option<usize>
-    ensures { option_map (λ n. drop n text.now) result ≡ behind_byte byte (drop at text.now) }
+/// The rest behind a byte that must stand in front.
+pub(crate) fn past(text: &[u8], byte: u8) -> Option<&[u8]>
+    ensures { option_copied result ≡ behind_byte byte text.now }
 {
-    if at < text.len() && text[at] == byte {
-        Some(at + 1)
-    } else {
-        None
+    match text {
+        [first, rest @ ..] if *first == byte => Some(rest),
+        _ => None,
     }
+}
+
+/// A field, with the rest behind the space that must follow it.
+pub(crate) fn spaced<T: Copy>(field: Option<(T, &[u8])>) -> Option<(T, &[u8])>
+    ensures { read_as (λ v. v) result ≡ behind 32 (read_as (λ v. v) field.entry) }
+{
+    let (value, rest) = field?;
+    Some((value, past(rest, b' ')?))
 }
 
 /// The letter of the side to move.
-fn side_field(text: &[u8], at: usize) -> Option<(Side, usize)>
-    ensures { rest_of (λ s. s) text.now result ≡ read_side (drop at text.now) }
+pub(crate) fn side(text: &[u8]) -> Option<(Side, &[u8])>
+    ensures { read_as (λ s. s) result ≡ read_side text.now }
 {
-    if let Some(next) = past(text, at, b'w') {
-        return Some((Side::White, next));
+    match text {
+        [b'w', rest @ ..] => Some((Side::White, rest)),
+        [b'b', rest @ ..] => Some((Side::Black, rest)),
+        _ => None,
     }
-    let next = past(text, at, b'b')?;
-    Some((Side::Black, next))
 }
 
-/// The side to move.
-pub(crate) fn side(text: &[u8], at: usize) -> Option<(Side, usize)>
-    ensures { rest_of (λ s. s) text.now result ≡ behind 32 (read_side (drop at text.now)) }
+/// Whether a right's letter stands in front.
+fn right(text: &[u8], letter: u8) -> (bool, &[u8])
+    ensures { (result.0, result.1.now) ≡ read_right letter text.now }
 {
-    let (side, end) = side_field(text, at)?;
-    let next = past(text, end, b' ')?;
-    Some((side, next))
-}
-
-/// Whether a right's letter stands at a place.
-fn right(text: &[u8], at: usize, letter: u8) -> (bool, usize)
-    ensures { (result.0, drop result.1 text.now) ≡ read_right letter (drop at text.now) }
-{
-    match past(text, at, letter) {
-        Some(next) => (true, next),
-        None => (false, at),
+    match past(text, letter) {
+        Some(rest) => (true, rest),
+        None => (false, text),
     }
 }
 
 /// The castling rights of a side, by its two letters.
-fn castling(text: &[u8], at: usize, king: u8, queen: u8) -> (Castling, usize)
-    ensures { (result.0, drop result.1 text.now) ≡ read_castling king queen (drop at text.now) }
+fn castling(text: &[u8], king: u8, queen: u8) -> (Castling, &[u8])
+    ensures { (result.0, result.1.now) ≡ read_castling king queen text.now }
 {
-    let (kingside, behind_king) = right(text, at, king);
-    let (queenside, behind_queen) = right(text, behind_king, queen);
+    let (kingside, rest) = right(text, king);
+    let (queenside, rest) = right(rest, queen);
     (
         Castling {
             kingside,
             queenside,
         },
-        behind_queen,
+        rest,
     )
 }
 
@@ -76,70 +74,29 @@ pub(crate) fn none(rights: Rights) -> bool
 }
 
 /// The castling rights, or the hyphen for none.
-fn rights_field(text: &[u8], at: usize) -> Option<(Rights, usize)>
-    ensures { rest_of (λ x. x) text.now result ≡ read_rights (drop at text.now) }
+pub(crate) fn rights(text: &[u8]) -> Option<(Rights, &[u8])>
+    ensures { read_as (λ r. r) result ≡ read_rights text.now }
 {
-    let (white, behind_white) = castling(text, at, b'K', b'Q');
-    let (black, behind_black) = castling(text, behind_white, b'k', b'q');
+    let (white, rest) = castling(text, b'K', b'Q');
+    let (black, rest) = castling(rest, b'k', b'q');
     let rights = Rights { white, black };
     if none(rights) {
-        let next = past(text, behind_black, b'-')?;
-        return Some((rights, next));
+        Some((rights, past(rest, b'-')?))
+    } else {
+        Some((rights, rest))
     }
-    Some((rights, behind_black))
-}
-
-/// The castling rights.
-pub(crate) fn rights(text: &[u8], at: usize) -> Option<(Rights, usize)>
-    ensures { rest_of (λ x. x) text.now result ≡ behind 32 (read_rights (drop at text.now)) }
-{
-    let (rights, end) = rights_field(text, at)?;
-    let next = past(text, end, b' ')?;
-    Some((rights, next))
-}
-
-/// One of eight bytes in a row, the first of which counts as 0.
-fn eighth(text: &[u8], at: usize, first: u8) -> Option<(u8, usize)>
-    requires { first < 128 }
-    ensures value { rest_of (λ n. n) text.now result ≡ read_eighth first (drop at text.now) }
-    ensures small { IfSome result (λ x. x.0 < 8) }
-{
-    if at >= text.len() {
-        return None;
-    }
-    let byte = text[at];
-    if byte < first || byte >= first + 8 {
-        return None;
-    }
-    Some((byte - first, at + 1))
-}
-
-/// A square by its file and its rank.
-fn square(text: &[u8], at: usize) -> Option<(Square, usize)>
-    ensures { rest_of square_number text.now result ≡ read_square (drop at text.now) }
-{
-    let (file, behind_file) = eighth(text, at, b'a')?;
-    let (rank, behind_rank) = eighth(text, behind_file, b'1')?;
-    let square = Square::new(8 * rank + file)?;
-    Some((square, behind_rank))
 }
 
 /// The name of the en passant square, or the hyphen for none.
-fn en_passant_field(text: &[u8], at: usize) -> Option<(Option<Square>, usize)>
-    ensures { rest_of (option_map square_number) text.now result ≡ read_en_passant (drop at text.now) }
+pub(crate) fn en_passant(text: &[u8]) -> Option<(Option<Square>, &[u8])>
+    ensures { read_as (option_map square_number) result ≡ read_en_passant text.now }
 {
-    if let Some(next) = past(text, at, b'-') {
-        return Some((None, next));
+    match text {
+        [b'-', rest @ ..] => Some((None, rest)),
+        [file @ b'a'..=b'h', rank @ b'1'..=b'8', rest @ ..] => {
+            let square = Square::new(8 * (rank - b'1') + (file - b'a'))?;
+            Some((Some(square), rest))
+        }
+        _ => None,
     }
-    let (square, next) = square(text, at)?;
-    Some((Some(square), next))
-}
-
-/// The en passant square.
-pub(crate) fn en_passant(text: &[u8], at: usize) -> Option<(Option<Square>, usize)>
-    ensures { rest_of (option_map square_number) text.now result ≡ behind 32 (read_en_passant (drop at text.now)) }
-{
-    let (square, end) = en_passant_field(text, at)?;
-    let next = past(text, end, b' ')?;
-    Some((square, next))
 }

@@ -13,8 +13,8 @@ use crate::fen::line::Line;
 use crate::fen::placement::rank_end;
 use board::piece;
 use board::side::Side;
-use laws::setup::Setup;
 use board::square::Square;
+use laws::setup::Setup;
 use rules::rights::Rights;
 
 /// A digit for so many empty squares in a row, if there are any.

@@ -1,46 +1,42 @@
 //! Reading the piece placement.
-ghost use Rattle.std.specs.Prelude.{◌≡◌, false, [], drop};
-ghost use Rattle.notation.specs.Reader.{rest_of};
+ghost use Rattle.std.specs.Prelude.{◌≡◌, false, []};
+ghost use Rattle.notation.specs.Reader.{read_as};
 ghost use Rattle.notation.specs.Fields.{is_gap as gap_digit, rank_end as end_of_rank, read_rank, read_ranks};
 
 use crate::fen::fields;
+use arrayvec::ArrayVec;
 use board::piece;
 
 /// Whether a byte is a digit for empty squares.
 fn is_gap(byte: u8) -> bool
     ensures { result ≡ gap_digit byte }
 {
-    b'1' <= byte && byte <= b'8'
+    matches!(byte, b'1'..=b'8')
 }
 
-/// The eight codes of a rank, and the place behind it.
-fn rank(text: &[u8], from: usize) -> Option<([u8; 8], usize)>
-    ensures { rest_of (λ codes. codes) text.now result ≡ read_rank false [] (drop from text.now) }
+/// The eight codes of a rank, and the rest behind it.
+fn rank(text: &[u8]) -> Option<(ArrayVec<u8, 8>, &[u8])>
+    ensures { read_as (λ codes. codes.items) result ≡ read_rank false [] text.now }
 {
-    let mut codes = [0; 8];
-    let mut file = 0;
-    let mut at = from;
+    let mut codes = ArrayVec::new();
     let mut after_gap = false;
-    while file < 8 {
-        if at >= text.len() {
+    let mut rest = text;
+    while !codes.is_full() {
+        let (byte, behind) = rest.split_first()?;
+        let gap = is_gap(*byte);
+        if gap && after_gap {
             return None;
         }
-        let byte = text[at];
-        if is_gap(byte) {
-            let gap = (byte - b'0') as usize;
-            if after_gap || file + gap > 8 {
-                return None;
-            }
-            file += gap;
-            after_gap = true;
+        if gap {
+            let empty = usize::from(byte - b'0');
+            codes.try_extend_from_slice(&[0; 8][..empty]).ok()?;
         } else {
-            codes[file] = piece::from_letter(byte)?;
-            file += 1;
-            after_gap = false;
+            codes.push(piece::from_letter(*byte)?);
         }
-        at += 1;
+        after_gap = gap;
+        rest = behind;
     }
-    Some((codes, at))
+    Some((codes, rest))
 }
 
 /// The byte behind a rank with so many ranks to come.
@@ -50,16 +46,16 @@ pub(crate) fn rank_end(left: usize) -> u8
     if left == 0 { b' ' } else { b'/' }
 }
 
-/// The 64 codes, and the place behind the placement and its space.
-pub(crate) fn placement(text: &[u8], from: usize) -> Option<([u8; 64], usize)>
-    ensures { rest_of (λ codes. codes) text.now result ≡ read_ranks 8 [] (drop from text.now) }
+/// The 64 codes, and the rest behind the placement and its space.
+pub(crate) fn placement(text: &[u8]) -> Option<([u8; 64], &[u8])>
+    ensures { read_as (λ codes. codes) result ≡ read_ranks 8 [] text.now }
 {
     let mut codes = [0; 64];
-    let mut at = from;
+    let mut rest = text;
     for row in (0..8usize).rev() {
-        let (squares, end) = rank(text, at)?;
+        let (squares, behind) = rank(rest)?;
         codes[8 * row..8 * row + 8].copy_from_slice(&squares);
-        at = fields::past(text, end, rank_end(row))?;
+        rest = fields::past(behind, rank_end(row))?;
     }
-    Some((codes, at))
+    Some((codes, rest))
 }

@@ -1,5 +1,7 @@
-use Rattle.notation.proofs.Fronts.{castling_made}
+use Rattle.std.proofs.Common.{rules}
+use Rattle.notation.specs.Fields.{read_castling}
 use Rattle.notation.proofs.fen.fields.castling.Goals as goal
 
 pub returns : goal.returns
-returns c = castling_made c.args.king c.args.queen _ _ _ _ _ c.right-kingside.ensures c.right-queenside.ensures
+unfolding read_castling
+returns c = search rules
