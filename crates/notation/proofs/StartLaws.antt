@@ -1,6 +1,7 @@
 -- What a start is read as, case by case.
-use Rattle.std.proofs.Common.{◌≡◌, ℕ, cond, List, Some, None, Ok, Err, Option, Result, sym, ap, ◌∙◌, arith}
+use Rattle.std.proofs.Common.{◌≡◌, ℕ, ◌≤◌, true, cond, List, Some, None, Ok, Err, Option, Result, sym, ap, ◌∙◌, arith}
 use Rattle.std.specs.Option.{ok_or}
+use Rattle.std.proofs.lemmas.Bool.Decides.{nat_tests}
 use Rattle.faults.specs.declared.NotationFault.{NotationFault}
 use Rattle.faults.specs.declared.NotationFault.TheVariants.{NotFen}
 use Rattle.faults.specs.declared.LawsFault.TheVariants.{InNotation}
@@ -47,3 +48,6 @@ start_made t p q h j =
       read = r ∙ ap Some (sym s);
       answer = ap start_of r ∙ ap started (sym j) ∙ ap (λ x. cond (start_counters x.clock x.number) (Ok q) (Err Counters)) s;
     }
+
+pub counters_low : (clock number : ℕ) → start_counters clock number ≡ true → (clock ≤ 999) × (number ≤ 5000)
+counters_low clock number e = (grind (arith, nat_tests), grind (arith, nat_tests))

@@ -1,8 +1,7 @@
 -- What is written of a position.
-use Rattle.std.proofs.Common.{◌≡◌, ℕ, ◌<◌, ◌≤◌, Bool, true, false, cond, ◌&&◌, ltb, leb, List, [], ◌∷◌, ◌++◌, length, take, drop, IfSome, Some, None, Ok, Err, Option, sym, ap, ◌∙◌, arith}
+use Rattle.std.proofs.Common.{◌≡◌, ◌<◌, ◌≤◌, Bool, true, ◌&&◌, leb, List, [], ◌∷◌, ◌++◌, take, IfSome, Some, None, Option, arith}
 use Rattle.std.specs.Option.{option_map}
-use Rattle.std.proofs.lemmas.Bool.{and_parts, leb-true, lt-ltb, le-ltb}
-use Rattle.faults.specs.declared.SheetFault.TheVariants.{BufferShort}
+use Rattle.std.proofs.lemmas.Bool.{and_parts, leb-true}
 use Rattle.rules.specs.declared.breach.Breach.{Breach}
 use Rattle.rules.specs.declared.breach.Breach.TheVariants.{Counters}
 use Rattle.laws.specs.declared.position.Position.{Position}
@@ -13,7 +12,6 @@ use Rattle.laws.specs.Position.{position_parts}
 use Rattle.laws.specs.Setup.{square_number}
 use Rattle.rules.proofs.LawfulLaws.{lawful_board}
 use Rattle.notation.specs.Fen.{fen, fen_parts}
-use Rattle.notation.specs.Answers.{write_answer, written_over}
 use Rattle.notation.proofs.FenLaws.{reads_back}
 
 last_holds : (ls : List (Bool × Breach)) (l : Bool × Breach) → all_hold (ls ++ (l ∷ [])) ≡ true → l.0 ≡ true
@@ -37,15 +35,3 @@ position_back p =
     let c0 = c.0 in
     let c1 = c.1 in
     reads_back (position_parts p) (lawful_board (position_parts p) p.ok) (on_board p.setup.en_passant) (omega arith) (omega arith)
-
-pub written_short : (t text out : List ℕ) → t ≡ text → length out < length t → (Err BufferShort ≡ write_answer text out) × (out ≡ written_over text out)
-written_short t text out e h =
-    let s : ltb (length out) (length text) ≡ true = lt-ltb (length out) (length text) (let l = ap length e in omega arith) in
-    (sym (ap (λ x. cond x (Err BufferShort) (Ok (length text))) s), sym (ap (λ x. cond x out (text ++ drop (length text) out)) s))
-
-pub written_whole : (t text out part : List ℕ) → t ≡ text → length t ≤ length out → part ≡ t → (Ok (length t) ≡ write_answer text out) × (part ++ drop (length t) out ≡ written_over text out)
-written_whole t text out part e h p =
-    let s : ltb (length out) (length text) ≡ false = le-ltb (length out) (length text) (let l = ap length e in omega arith) in (
-      ap (λ x. Ok (length x)) e ∙ sym (ap (λ x. cond x (Err BufferShort) (Ok (length text))) s),
-      ap (λ x. x ++ drop (length t) out) p ∙ ap (λ x. x ++ drop (length x) out) e ∙ sym (ap (λ x. cond x out (text ++ drop (length text) out)) s),
-    )

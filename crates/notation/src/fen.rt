@@ -17,7 +17,6 @@ use laws::setup::Setup;
 
 mod fields;
 mod lay;
-mod line;
 mod placement;
 
 /// The parts that a text says, if it is FEN.
@@ -57,7 +56,7 @@ pub fn read<B: Board>(board: &mut B, text: &[u8]) -> Result<Position, SheetFault
 {
     let setup = parse(text)?;
     let position = Position::new(board, setup)?;
-    if setup.clock > 999 || setup.number < 1 || setup.number > 5000 {
+    if setup.clock > 999 || !(1..=5000).contains(&setup.number) {
         return Err(SheetFault::Counters);
     }
     Ok(position)
@@ -71,10 +70,9 @@ pub fn write(position: &Position, out: &mut [u8]) -> Result<usize, SheetFault>
     ensures few { length (fen_of (position_parts position.now)) ≤ 124 }
 {
     let line = lay::line(&position.setup);
-    let text = line.text();
-    if out.len() < text.len() {
+    if out.len() < line.len() {
         return Err(SheetFault::BufferShort);
     }
-    out[..text.len()].copy_from_slice(text);
-    Ok(text.len())
+    out[..line.len()].copy_from_slice(&line);
+    Ok(line.len())
 }

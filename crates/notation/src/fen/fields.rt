@@ -64,7 +64,7 @@ fn castling(text: &[u8], king: u8, queen: u8) -> (Castling, &[u8])
 }
 
 /// Whether there is no castling right.
-pub(crate) fn none(rights: Rights) -> bool
+fn none(rights: Rights) -> bool
     ensures { result ≡ no_right rights }
 {
     !(rights.white.kingside

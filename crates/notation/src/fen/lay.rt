@@ -1,62 +1,72 @@
-//! Writing the fields of FEN.
+//! Writing the fields of FEN, each as a text of its own with room for the longest.
 ghost use Rattle.std.specs.Prelude.{◌≡◌, ◌+◌, ◌<◌, ◌≤◌, ◌++◌, length};
-ghost use Rattle.notation.specs.Fields.{gap_text, rank_text, ranks_text, side_letter as letter_of_side, right_text, rights_text, en_passant_text};
 ghost use Rattle.std.specs.Option.{option_map};
+ghost use Rattle.arrayvec.specs.ArrayVec.{array_vec_len};
 ghost use Rattle.laws.specs.Setup.{parts, square_number};
-ghost use Rattle.notation.specs.Decimal.{digits as digits_of};
+ghost use Rattle.notation.specs.Fields.{gap_text, rank_text, ranks_text, side_letter as letter_of_side, right_text, rights_text, en_passant_text};
 ghost use Rattle.notation.specs.Fen.{fen as fen_of};
-ghost use Rattle.notation.specs.Written.{line_text};
 
 use crate::decimal::Digits;
-use crate::fen::fields::none;
-use crate::fen::line::Line;
 use crate::fen::placement::rank_end;
+use arrayvec::ArrayVec;
 use board::piece;
 use board::side::Side;
 use board::square::Square;
 use laws::setup::Setup;
 use rules::rights::Rights;
 
-/// A digit for so many empty squares in a row, if there are any.
-fn gap(line: &mut Line, count: u8)
-    requires { (line.old.len < 104) × (count ≤ 8) }
-    ensures text { line_text line.new ≡ line_text line.old ++ gap_text count }
-    ensures size { line.new.len ≤ line.old.len + count }
+/// A piece of text behind what is written.
+fn append<const N: usize>(text: &mut ArrayVec<u8, N>, piece: &[u8])
+    requires { array_vec_len text.old + length piece.now ≤ N }
+    ensures items { text.new.items ≡ text.old.items ++ piece.now }
+    ensures len { array_vec_len text.new ≡ array_vec_len text.old + length piece.now }
 {
-    if count > 0 {
-        line.push(b'0' + count);
+    for byte in piece {
+        text.push(*byte);
+    }
+}
+
+/// A digit for so many empty squares in a row, if there are any.
+fn gap(text: &mut ArrayVec<u8, 8>, empty: u8)
+    requires { array_vec_len text.old + empty ≤ 8 }
+    ensures items { text.new.items ≡ text.old.items ++ gap_text empty }
+    ensures len { array_vec_len text.new ≤ array_vec_len text.old + empty }
+{
+    if empty > 0 {
+        text.push(b'0' + empty);
     }
 }
 
 /// The squares of a rank.
-fn rank(line: &mut Line, squares: &[u8])
-    requires { (line.old.len + length squares.now < 104) × (length squares.now ≤ 8) }
-    ensures text { line_text line.new ≡ line_text line.old ++ rank_text 0 squares.now }
-    ensures size { line.new.len ≤ line.old.len + length squares.now }
+fn rank(squares: &[u8; 8]) -> ArrayVec<u8, 8>
+    ensures { result.items ≡ rank_text 0 squares.now }
 {
+    let mut text = ArrayVec::new();
     let mut empty = 0;
     for code in squares {
         if *code == 0 {
             empty += 1;
         } else {
-            gap(line, empty);
-            line.push(piece::letter(*code));
+            gap(&mut text, empty);
+            text.push(piece::letter(*code));
             empty = 0;
         }
     }
-    gap(line, empty);
+    gap(&mut text, empty);
+    text
 }
 
 /// The piece placement and its space.
-fn placement(line: &mut Line, codes: &[u8; 64])
-    requires { line.old.len ≤ 0 }
-    ensures text { line_text line.new ≡ line_text line.old ++ ranks_text 8 codes.now }
-    ensures size { line.new.len ≤ 72 }
+fn placement(codes: &[u8; 64]) -> ArrayVec<u8, 72>
+    ensures { result.items ≡ ranks_text 8 codes.now }
 {
+    let (ranks, _) = codes.as_chunks::<8>();
+    let mut text = ArrayVec::new();
     for row in (0..8usize).rev() {
-        rank(line, &codes[8 * row..8 * row + 8]);
-        line.push(rank_end(row));
+        append(&mut text, &rank(&ranks[row]));
+        text.push(rank_end(row));
     }
+    text
 }
 
 /// The letter of a side.
@@ -70,72 +80,60 @@ fn side_letter(side: Side) -> u8
 }
 
 /// The letter of a right that stands.
-fn right(line: &mut Line, letter: u8, stands: bool)
-    requires { line.old.len < 104 }
-    ensures text { line_text line.new ≡ line_text line.old ++ right_text letter stands }
-    ensures size { line.new.len ≤ line.old.len + 1 }
+fn right(text: &mut ArrayVec<u8, 4>, letter: u8, stands: bool)
+    requires { array_vec_len text.old < 4 }
+    ensures items { text.new.items ≡ text.old.items ++ right_text letter stands }
+    ensures len { array_vec_len text.new ≤ array_vec_len text.old + 1 }
 {
     if stands {
-        line.push(letter);
+        text.push(letter);
     }
 }
 
-/// The castling rights.
-fn rights(line: &mut Line, rights: Rights)
-    requires { line.old.len ≤ 100 }
-    ensures text { line_text line.new ≡ line_text line.old ++ rights_text rights }
-    ensures size { line.new.len ≤ line.old.len + 4 }
+/// The castling rights, or the hyphen for none.
+fn rights(rights: Rights) -> ArrayVec<u8, 4>
+    ensures { result.items ≡ rights_text rights }
 {
-    if none(rights) {
-        line.push(b'-');
-    } else {
-        right(line, b'K', rights.white.kingside);
-        right(line, b'Q', rights.white.queenside);
-        right(line, b'k', rights.black.kingside);
-        right(line, b'q', rights.black.queenside);
+    let mut text = ArrayVec::new();
+    right(&mut text, b'K', rights.white.kingside);
+    right(&mut text, b'Q', rights.white.queenside);
+    right(&mut text, b'k', rights.black.kingside);
+    right(&mut text, b'q', rights.black.queenside);
+    if text.is_empty() {
+        text.push(b'-');
     }
+    text
 }
 
-/// The en passant square.
-fn en_passant(line: &mut Line, square: Option<Square>)
-    requires { line.old.len ≤ 102 }
-    ensures text { line_text line.new ≡ line_text line.old ++ en_passant_text (option_map square_number square) }
-    ensures size { line.new.len ≤ line.old.len + 2 }
+/// The name of the en passant square, or the hyphen for none.
+fn en_passant(square: Option<Square>) -> ArrayVec<u8, 2>
+    ensures { result.items ≡ en_passant_text (option_map square_number square) }
 {
+    let mut text = ArrayVec::new();
     match square {
-        None => line.push(b'-'),
+        None => text.push(b'-'),
         Some(square) => {
-            let number = square.number();
-            line.push(b'a' + number % 8);
-            line.push(b'1' + number / 8);
+            text.push(b'a' + square.file());
+            text.push(b'1' + square.rank());
         }
     }
+    text
 }
 
-/// A decimal number.
-fn decimal(line: &mut Line, number: u16)
-    requires { line.old.len ≤ 104 }
-    ensures text { line_text line.new ≡ line_text line.old ++ digits_of number }
-    ensures size { line.new.len ≤ line.old.len + 20 }
+/// The FEN of these parts, in a text with room for every FEN.
+pub(crate) fn line(setup: &Setup) -> ArrayVec<u8, 124>
+    ensures { result.items ≡ fen_of (parts setup.now) }
 {
-    let digits = Digits::of(number as u64);
-    line.append(digits.text());
-}
-
-/// The FEN of these parts.
-pub(crate) fn line(setup: &Setup) -> Line
-    ensures { line_text result ≡ fen_of (parts setup.now) }
-{
-    let mut line = Line::new();
-    placement(&mut line, &setup.codes);
+    let mut line = ArrayVec::new();
+    append(&mut line, &placement(&setup.codes));
     line.push(side_letter(setup.side));
     line.push(b' ');
-    rights(&mut line, setup.rights);
+    append(&mut line, &rights(setup.rights));
     line.push(b' ');
-    en_passant(&mut line, setup.en_passant);
+    append(&mut line, &en_passant(setup.en_passant));
     line.push(b' ');
-    decimal(&mut line, setup.clock);
+    append(&mut line, Digits::of(u64::from(setup.clock)).text());
     line.push(b' ');
-    decimal(&mut line, setup.number);
+    append(&mut line, Digits::of(u64::from(setup.number)).text());
     line
 }

@@ -6,7 +6,7 @@ use Rattle.laws.specs.Position.{position_parts}
 use Rattle.laws.specs.Setup.{parts}
 use Rattle.notation.specs.Answers.{start_parts, start_counters}
 use Rattle.notation.proofs.FenLaws.{only_fen}
-use Rattle.notation.proofs.StartLaws.{start_none, start_broken, start_made}
+use Rattle.notation.proofs.StartLaws.{start_none, start_broken, start_made, counters_low}
 use Rattle.notation.proofs.fen.read.Goals as goal
 
 pub returns-in_err-setup : goal.returns-in_err-setup
@@ -31,7 +31,7 @@ returns-in_err-position g c =
 pub returns-then-setup-gt999 : goal.returns-then-setup-gt999
 returns-then-setup-gt999 g c =
     let s = start_made c.args.text.now (parts c.in_ok-setup.setup) (position_parts c.in_ok-position.position) c.in_ok-setup.ensures.value c.in_ok-position.ensures.answer in
-    let t : start_counters c.in_ok-setup.setup.clock c.in_ok-setup.setup.number ≡ false = grind (arith, nat_tests, c.then-setup-gt999.either) in
+    let t : start_counters c.in_ok-setup.setup.clock c.in_ok-setup.setup.number ≡ false = grind (arith, nat_tests, c.then-setup-gt999.branch) in
     record {
       answer = sym (s.answer ∙ ap (λ x. cond x (Ok (position_parts c.in_ok-position.position)) (Err Counters)) t);
       exact = tt;
@@ -41,7 +41,8 @@ returns-then-setup-gt999 g c =
 pub returns : goal.returns
 returns g c =
     let s = start_made c.args.text.now (parts c.in_ok-setup.setup) (position_parts c.in_ok-position.position) c.in_ok-setup.ensures.value c.in_ok-position.ensures.answer in
-    let t : start_counters c.in_ok-setup.setup.clock c.in_ok-setup.setup.number ≡ true = grind (arith, nat_tests) in
+    let t : start_counters c.in_ok-setup.setup.clock c.in_ok-setup.setup.number ≡ true = grind (arith, nat_tests, c.contains.ensures.cases) in
+    let low = counters_low c.in_ok-setup.setup.clock c.in_ok-setup.setup.number t in
     let clock = ap (λ x. x.clock) s.same in
     let number = ap (λ x. x.number) s.same in
     record {

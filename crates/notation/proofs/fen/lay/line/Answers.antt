@@ -1,12 +1,18 @@
-use Rattle.std.proofs.Common.{[], ◌∷◌, ◌++◌, ap, ◌∙◌}
+use Rattle.std.proofs.Common.{◌≡◌, List, ℕ, [], ◌∷◌, ◌++◌, ap, ◌∙◌}
 use Rattle.laws.specs.Setup.{parts}
-use Rattle.notation.specs.Written.{line_text}
+use Rattle.notation.specs.Decimal.{digits}
 use Rattle.notation.proofs.Laying.{fen_laid}
 use Rattle.notation.proofs.fen.lay.line.Goals as goal
 
+written : (x : List ℕ) {y s t : List ℕ} → y ≡ x ++ s → s ≡ t → y ≡ x ++ t
+written x e f = e ∙ ap (λ z. x ++ z) f
+
 pub returns : goal.returns
 returns c =
-    fen_laid (parts c.args.setup.now) _ _ _ _ _ _ _ _ _ _ _ c.new-line.ensures.text c.placement.ensures.text
-    (c.push.ensures.text ∙ ap (λ x. line_text c.placement.new.line ++ (x ∷ [])) c.side_letter.ensures) c.push-2.ensures.text
-    c.rights.ensures.text c.push-3.ensures.text c.en_passant.ensures.text c.push-4.ensures.text
-    c.decimal.ensures.text c.push-5.ensures.text c.decimal-2.ensures.text
+    fen_laid (parts c.args.setup.now) _ _ _ _ _ _ _ _ _ _ _ c.new-line.ensures
+    (written _ c.append.ensures.items (c.deref.ensures.0 ∙ c.placement.ensures))
+    (written _ c.push.ensures.items (ap (λ x. x ∷ []) c.side_letter.ensures)) c.push-2.ensures.items
+    (written _ c.append-2.ensures.items (c.deref-2.ensures.0 ∙ c.rights.ensures)) c.push-3.ensures.items
+    (written _ c.append-3.ensures.items (c.deref-3.ensures.0 ∙ c.en_passant.ensures)) c.push-4.ensures.items
+    (written _ c.append-4.ensures.items (c.text.ensures.value ∙ c.of.ensures ∙ ap digits c.from.ensures)) c.push-5.ensures.items
+    (written _ c.append-5.ensures.items (c.text-2.ensures.value ∙ c.of-2.ensures ∙ ap digits c.from-2.ensures))

@@ -1,17 +1,17 @@
-use Rattle.std.proofs.Common.{◌++◌, sym, ap, ◌∙◌, arith}
-use Rattle.notation.specs.Written.{line_text}
-use Rattle.notation.proofs.Laying.{rights_none, rights_laid}
+use Rattle.std.proofs.Common.{[], ◌∷◌, ◌++◌, sym, ap, ◌∙◌, if◌then◌else◌}
+use Rattle.std.proofs.lemmas.List.{nil_from_length}
+use Rattle.std.proofs.lemmas.Bool.{eqb-true}
+use Rattle.notation.proofs.Laying.{rights_laid}
 use Rattle.notation.proofs.fen.lay.rights.Goals as goal
 
-pub returns-then-none : goal.returns-then-none
-returns-then-none c =
-    let n = sym c.none.ensures ∙ c.if-none.true in
-    record { text = c.push.ensures.text ∙ ap (λ x. line_text c.args.line.now ++ x) (sym (rights_none c.args.rights n)); size = omega (arith, c.push.ensures.size) }
+pub returns-then-is_empty : goal.returns-then-is_empty
+returns-then-is_empty c =
+    let e = rights_laid c.args.rights _ _ _ _ _ c.new-text.ensures c.right.ensures.items c.right-2.ensures.items c.right-3.ensures.items c.right-4.ensures.items in
+    let n = sym c.is_empty.ensures ∙ c.if-is_empty.true in
+    c.push.ensures.items ∙ ap (λ x. x ++ (45 ∷ [])) (nil_from_length c.right-4.new.text.items (eqb-true _ 0 n)) ∙ sym (e ∙ ap (λ b. if b then 45 ∷ [] else c.right-4.new.text.items) n)
 
-pub returns-else-none : goal.returns-else-none
-returns-else-none c =
-    let n = sym c.none.ensures ∙ c.if-none.false in
-    record {
-      text = rights_laid c.args.rights n _ _ _ _ _ c.right.ensures.text c.right-else-none.ensures.text c.right-else-none-2.ensures.text c.right-else-none-3.ensures.text;
-      size = omega (arith, c.right.ensures.size, c.right-else-none.ensures.size, c.right-else-none-2.ensures.size, c.right-else-none-3.ensures.size);
-    }
+pub returns-else-is_empty : goal.returns-else-is_empty
+returns-else-is_empty c =
+    let e = rights_laid c.args.rights _ _ _ _ _ c.new-text.ensures c.right.ensures.items c.right-2.ensures.items c.right-3.ensures.items c.right-4.ensures.items in
+    let n = sym c.is_empty.ensures ∙ c.if-is_empty.false in
+    sym (e ∙ ap (λ b. if b then 45 ∷ [] else c.right-4.new.text.items) n)
