@@ -1,6 +1,6 @@
 -- What is written of a rank and of the placement, and what is left to write.
-use Rattle.std.proofs.Common.{Bool, not, ◌||◌, ◌==◌, if◌then◌else◌, ◌≡◌, ℕ, zero, suc, ◌+◌, ◌-◌, ◌*◌, ◌<◌, ◌≤◌, true, false, cond, List, [], ◌∷◌, ◌++◌, length, get_or, take, drop, sym, refl, ap, ◌∙◌, append_assoc, arith}
-use Rattle.std.proofs.lemmas.List.{append-nil, drop_more, drop_all, drop-drop}
+use Rattle.std.proofs.Common.{Bool, not, ◌||◌, ◌==◌, if◌then◌else◌, ◌≡◌, ℕ, zero, suc, ◌+◌, ◌*◌, ◌/◌, ◌<◌, ◌≤◌, true, false, cond, List, [], ◌∷◌, ◌++◌, length, get_or, take, drop, sym, refl, ap, ◌∙◌, append_assoc, length-append, arith}
+use Rattle.std.proofs.lemmas.List.{append-nil, drop_more, drop_all, drop-drop, take_at, drop_at}
 use Rattle.std.proofs.lemmas.Bool.{eq-eqb, ne_eqb}
 use Rattle.std.specs.Simd.{first_chunks}
 use Rattle.board.specs.Piece.{letter}
@@ -48,32 +48,65 @@ module _ {squares text : List ℕ} {empty at : ℕ} (l : LaidRank squares text e
   unfolding rank_text
   laid_end h = ap (λ x. text ++ rank_text empty x) (sym (drop_all at squares h)) ∙ l.left
 
--- the placement is written down to a rank
-pub record LaidRanks (codes text : List ℕ) (row : ℕ) : Type 0 where
-  pub within : row ≤ 8
-  pub size : length text ≤ 9 * (8 - row)
-  pub left : text ++ ranks_text row codes ≡ ranks_text 8 codes
+-- the ranks of a board, the last of them apart
+ranks_split : (row : ℕ) (codes : List ℕ) → first_chunks 8 (suc row) codes ≡ first_chunks 8 row codes ++ (rank_codes row codes ∷ [])
+ranks_split zero codes = refl
+ranks_split (suc row) codes =
+    let e : 8 + 8 * row ≡ 8 * suc row = omega arith in
+    ap (λ x. take 8 codes ∷ x) (ranks_split row (drop 8 codes)) ∙ ap (λ x. take 8 codes ∷ (first_chunks 8 row (drop 8 codes) ++ (take 8 x ∷ []))) (drop-drop (8 * row) 8 codes ∙ ap (λ n. drop n codes) e)
 
-module _ {codes text : List ℕ} {row : ℕ} (l : LaidRanks codes text row) where
-  pub ranks_more : (more : List ℕ) → 0 < row → more ≡ (text ++ rank_text 0 (rank_codes (row - 1) codes)) ++ (rank_end (row - 1) ∷ []) → length more ≤ length text + 9 → LaidRanks codes more (row - 1)
+ranks_count : (row : ℕ) (codes : List ℕ) → length (first_chunks 8 row codes) ≡ row
+ranks_count zero codes = refl
+ranks_count (suc row) codes = ap suc (ranks_count row (drop 8 codes))
+
+-- the placement is written down to the ranks that are left
+pub record LaidRanks (codes text : List ℕ) (ranks : List (List ℕ)) : Type 0 where
+  pub within : length ranks ≤ 8
+  pub size : length text + 9 * length ranks ≤ 72
+  pub are : ranks ≡ first_chunks 8 (length ranks) codes
+  pub left : text ++ ranks_text (length ranks) codes ≡ ranks_text 8 codes
+
+pub ranks_none : (codes text : List ℕ) (ranks : List (List ℕ)) → length codes ≡ 64 → text ≡ [] → ranks ≡ first_chunks 8 (length codes / 8) codes → LaidRanks codes text ranks
+ranks_none codes text ranks h t e =
+    let eight : length codes / 8 ≡ 8 = omega arith in
+    let count : length ranks ≡ 8 = ap length e ∙ ranks_count (length codes / 8) codes ∙ eight in
+    let none : length text ≡ 0 = ap length t in
+    record {
+      within = omega arith;
+      size = omega arith;
+      are = e ∙ ap (λ n. first_chunks 8 n codes) (eight ∙ sym count);
+      left = ap (λ n. text ++ ranks_text n codes) count ∙ ap (λ x. x ++ ranks_text 8 codes) t;
+    }
+
+module _ {codes text : List ℕ} {ranks : List (List ℕ)} (l : LaidRanks codes text ranks) where
+  pub ranks_more : (more : List ℕ) (above : List (List ℕ)) (rank : List ℕ) → ranks ≡ above ++ (rank ∷ []) → more ≡ (text ++ rank_text 0 rank) ++ (rank_end (length above) ∷ []) → length more ≤ length text + 9 → LaidRanks codes more above
   unfolding ranks_text
-  ranks_more more h m w =
+  ranks_more more above rank e m w =
+      let row = length above in
       let i = l.within in
       let s = l.size in
-      let e : suc (row - 1) ≡ row = omega arith in
+      let count : length ranks ≡ suc row = ap length e ∙ length-append above (rank ∷ []) ∙ omega arith in
+      let same : above ++ (rank ∷ []) ≡ first_chunks 8 row codes ++ (rank_codes row codes ∷ []) = sym e ∙ l.are ∙ ap (λ n. first_chunks 8 n codes) count ∙ ranks_split row codes in
+      let front : above ≡ first_chunks 8 row codes =
+      sym (take_at above (rank ∷ []) row refl) ∙ ap (take row) same ∙ take_at (first_chunks 8 row codes) (rank_codes row codes ∷ []) row (ranks_count row codes) in
+      let last : rank ∷ [] ≡ rank_codes row codes ∷ [] =
+      sym (drop_at above (rank ∷ []) row refl) ∙ ap (drop row) same ∙ drop_at (first_chunks 8 row codes) (rank_codes row codes ∷ []) row (ranks_count row codes) in
+      let it : rank ≡ rank_codes row codes = cc in
       record {
         within = omega arith;
         size = omega arith;
+        are = front;
         left =
-            ap (λ x. x ++ ranks_text (row - 1) codes) m
-            ∙ append_assoc (text ++ rank_text 0 (rank_codes (row - 1) codes)) (rank_end (row - 1) ∷ []) (ranks_text (row - 1) codes)
-            ∙ append_assoc text (rank_text 0 (rank_codes (row - 1) codes)) (rank_end (row - 1) ∷ ranks_text (row - 1) codes)
-            ∙ ap (λ n. text ++ ranks_text n codes) e ∙ l.left;
+            ap (λ x. x ++ ranks_text row codes) m
+            ∙ append_assoc (text ++ rank_text 0 rank) (rank_end row ∷ []) (ranks_text row codes)
+            ∙ append_assoc text (rank_text 0 rank) (rank_end row ∷ ranks_text row codes)
+            ∙ ap (λ x. text ++ (rank_text 0 x ++ (rank_end row ∷ ranks_text row codes))) it
+            ∙ ap (λ n. text ++ ranks_text n codes) (sym count) ∙ l.left;
       }
 
-  pub ranks_end : row ≤ 0 → text ≡ ranks_text 8 codes
+  pub ranks_end : length ranks ≡ 0 → text ≡ ranks_text 8 codes
   unfolding ranks_text
-  ranks_end h = let z : row ≡ 0 = omega arith in sym (append-nil text) ∙ ap (λ n. text ++ ranks_text n codes) (sym z) ∙ l.left
+  ranks_end z = sym (append-nil text) ∙ ap (λ n. text ++ ranks_text n codes) (sym z) ∙ l.left
 
 -- the castling rights are written letter by letter, and the hyphen where that was none
 abbrev letters : Bool → Bool → Bool → Bool → List ℕ
@@ -94,14 +127,6 @@ unfolding rights_text
 rights_laid r x₀ x₁ x₂ x₃ x₄ a b c d e =
     let all : x₄ ≡ letters r.white.kingside r.white.queenside r.black.kingside r.black.queenside = rw (e, d, c, b, a) (simp append_assoc) in
     letters_or_hyphen r.white.kingside r.white.queenside r.black.kingside r.black.queenside ∙ ap (λ x. if length x == 0 then 45 ∷ [] else x) (sym all)
-
--- a rank of the board, among its ranks
-pub rank_at : (k row : ℕ) (codes : List ℕ) → row < k → get_or (first_chunks 8 k codes) row [] ≡ rank_codes row codes
-rank_at zero row codes h = absurd (omega arith)
-rank_at (suc k) zero codes h = refl
-rank_at (suc k) (suc row) codes h =
-    let e : 8 + 8 * row ≡ 8 * suc row = omega arith in
-    rank_at k row (drop 8 codes) (omega arith) ∙ ap (take 8) (drop-drop (8 * row) 8 codes) ∙ ap (λ n. take 8 (drop n codes)) e
 
 -- FEN is written field by field
 pub fen_laid : (p : Parts) (x₀ x₁ x₂ x₃ x₄ x₅ x₆ x₇ x₈ x₉ x : List ℕ) → x₀ ≡ [] → x₁ ≡ x₀ ++ ranks_text 8 p.codes →

@@ -62,8 +62,8 @@ fn placement(codes: &[u8; 64]) -> ArrayVec<u8, 72>
 {
     let (ranks, _) = codes.as_chunks::<8>();
     let mut text = ArrayVec::new();
-    for row in (0..8usize).rev() {
-        append(&mut text, &rank(&ranks[row]));
+    for (row, squares) in ranks.iter().enumerate().rev() {
+        append(&mut text, &rank(squares));
         text.push(rank_end(row));
     }
     text

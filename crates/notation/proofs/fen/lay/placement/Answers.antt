@@ -1,19 +1,22 @@
-use Rattle.std.proofs.Common.{◌≡◌, ℕ, ◌-◌, ◌/◌, length, List, [], ◌∷◌, ◌++◌, get_or, ap, ◌∙◌, arith}
-use Rattle.std.specs.Simd.{first_chunks}
-use Rattle.notation.specs.Fields.{rank_text, rank_codes}
-use Rattle.notation.proofs.Laying.{ranks_more, ranks_end, rank_at}
+use Rattle.std.proofs.Common.{◌≡◌, [], ◌∷◌, ◌++◌, length, ap, ◌∙◌, arith}
+use Rattle.notation.specs.Fields.{rank_text, rank_end}
+use Rattle.notation.proofs.Laying.{ranks_none, ranks_more, ranks_end}
 use Rattle.notation.proofs.fen.lay.placement.Goals as goal
+
+pub loop-row-init : goal.loop-row-init
+loop-row-init c = record { count = cc; laid = ranks_none c.args.codes.now c.new-text.result.items _ (omega arith) c.new-text.ensures (cc (c.as_chunks.ensures.front)) }
 
 pub loop-row-preserved : goal.loop-row-preserved
 loop-row-preserved c =
-    let eight : length c.args.codes.now / 8 ≡ 8 = omega arith in
-    let laid : c.rank.result.items ≡ rank_text 0 (rank_codes (c.loop-row.row - 1) c.args.codes.now) =
-    c.rank.ensures ∙ ap (λ (x : List (List ℕ)). rank_text 0 (get_or x (c.loop-row.row - 1) [])) (c.as_chunks.ensures.front ∙ ap (λ n. first_chunks 8 n c.args.codes.now) eight)
-    ∙ ap (rank_text 0) (rank_at 8 (c.loop-row.row - 1) c.args.codes.now (omega arith)) in
-    ranks_more c.loop-row.invariant c.push.new.self.items (omega arith)
-    (c.push.ensures.items ∙ ap (λ x. x ++ (c.rank_end.result ∷ [])) (c.append.ensures.items ∙ ap (λ x. c.loop-row.text.items ++ x) (c.deref.ensures.0 ∙ laid))
-    ∙ ap (λ x. (c.loop-row.text.items ++ rank_text 0 (rank_codes (c.loop-row.row - 1) c.args.codes.now)) ++ (x ∷ [])) c.rank_end.ensures)
-    (omega (arith, c.push.ensures.len, c.append.ensures.len, c.deref.ensures.1))
+    let s = c.in-Some.ensures.steps in
+    let row : c.in-Some.row ≡ length c.next.new.self.iter.iter.rest.now = omega (arith, c.loop-row.invariant.count, s.1.1) in
+    record {
+      count = s.0 ∙ c.loop-row.invariant.count;
+      laid = ranks_more c.loop-row.invariant.laid c.push.new.self.items _ c.in-Some.squares.now s.1.0
+          (c.push.ensures.items ∙ ap (λ x. x ++ (c.rank_end.result ∷ [])) (c.append.ensures.items ∙ ap (λ x. c.loop-row.text.items ++ x) (c.deref.ensures.0 ∙ c.rank.ensures))
+          ∙ ap (λ x. (c.loop-row.text.items ++ rank_text 0 c.in-Some.squares.now) ++ (x ∷ [])) (c.rank_end.ensures ∙ ap rank_end row))
+          (omega (arith, c.push.ensures.len, c.append.ensures.len, c.deref.ensures.1));
+    }
 
 pub returns : goal.returns
-returns c = ranks_end c.loop-row.invariant c.loop-row-test.false
+returns c = ranks_end c.loop-row.invariant.laid c.in-None.ensures.steps.1.0
