@@ -127,10 +127,10 @@ only_in (b ∷ t) v w rest e p l =
 -- a number that is read was written so
 pub number_only : (t : List ℕ) (v : ℕ) (rest : List ℕ) → read_number t ≡ Some (v, rest) → v < 65535 → t ≡ digits v ++ rest
 unfolding read_number
-number_only [] v rest e l = absurd (let z : ◌≡◌ {A = ℕ} 0 1 = cc in omega arith)
+number_only [] v rest e l = cc
 number_only (b ∷ t) v rest e l =
     ⊎_elim (λ (z : eqb b 48 ≡ true).
-    ⊎_elim (λ (s : starts_digit t ≡ true). let e' = rw (z, s) at e in absurd (let z : ◌≡◌ {A = ℕ} 0 1 = cc in omega arith))
+    ⊎_elim (λ (s : starts_digit t ≡ true). let e' = rw (z, s) at e in cc)
     (λ (s : starts_digit t ≡ false). let e' = rw (z, s) at e in let o = digits_one 0 (omega arith) in let y = eqb-true b 48 z in let q : (◌≡◌ {A = ℕ × List ℕ} (0, t) (v, rest)) = cc in let a : 0 ≡ v = ap (λ (x : ℕ × List ℕ). x.0) q in let b : t ≡ rest = ap (λ (x : ℕ × List ℕ). x.1) q in cc) (cases_Bool (starts_digit t)))
     (λ (z : eqb b 48 ≡ false).
     ⊎_elim (λ (s : is_digit b ≡ true).
@@ -144,7 +144,7 @@ number_only (b ∷ t) v rest e l =
     let bb : 48 + (b - 48) ≡ b = omega arith in
     let g : read_digits (b - 48) t ≡ (v, rest) = ap (λ x. read_digits x t) (sym k) ∙ sym (digits_step 0 b t s) ∙ f in
     ap (λ x. x ∷ t) (sym bb) ∙ ap (λ x. x ++ t) (sym (digits_one (b - 48) (omega arith))) ∙ only_in t (b - 48) v rest g (omega arith) l)
-    (λ (s : is_digit b ≡ false). let e' = rw (z, s) at e in absurd (let z : ◌≡◌ {A = ℕ} 0 1 = cc in omega arith)) (cases_Bool (is_digit b)))
+    (λ (s : is_digit b ≡ false). let e' = rw (z, s) at e in cc) (cases_Bool (is_digit b)))
     (cases_Bool (eqb b 48))
 
 -- the digits of a number are those that std writes

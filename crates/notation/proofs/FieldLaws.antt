@@ -7,12 +7,9 @@ use Rattle.board.specs.declared.side.Side.TheVariants.{White, Black}
 use Rattle.rules.specs.declared.rights.Rights.{Rights}
 use Rattle.notation.specs.Reader.{then, with, past, behind}
 use Rattle.notation.specs.Fields.{side_letter, read_side, right_text, no_right, rights_text, read_right, read_castling, read_rights, en_passant_text, read_eighth, read_square, read_en_passant}
-use Rattle.notation.proofs.RankLaws.{none_some, past_only, then_parts}
+use Rattle.notation.proofs.RankLaws.{none_some, some_parts, past_only, then_parts}
 
 -- the parts of a value and the rest
-pub some_parts : {X : Type 0} (a b : X) (r s : List ℕ) → ◌≡◌ {A = Option (X × List ℕ)} (Some (a, r)) (Some (b, s)) → (a ≡ b) × (r ≡ s)
-some_parts {X} a b r s e = let f : ◌≡◌ {A = X × List ℕ} (a, r) (b, s) = cc in (ap (λ (x : X × List ℕ). x.0) f, ap (λ (x : X × List ℕ). x.1) f)
-
 pub pair_parts : {X : Type 0} (a b : X) (r s : List ℕ) → ◌≡◌ {A = X × List ℕ} (a, r) (b, s) → (a ≡ b) × (r ≡ s)
 pair_parts {X} a b r s f = (ap (λ (x : X × List ℕ). x.0) f, ap (λ (x : X × List ℕ). x.1) f)
 

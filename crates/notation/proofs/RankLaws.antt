@@ -31,12 +31,12 @@ piece_letter c h l =
 
 least_passes : (n m : ℕ) (p : ℕ → Bool) → least_below n p ≡ Some m → p m ≡ true
 unfolding least_below
-least_passes zero m p e = absurd (let z : ◌≡◌ {A = ℕ} 0 1 = cc in omega arith)
+least_passes zero m p e = cc
 least_passes (suc n) m p e = go (least_passes n m p) (least_below n p) (p n) refl refl e
   where
     go : (least_below n p ≡ Some m → p m ≡ true) → (o : Option ℕ) (b : Bool) → least_below n p ≡ o → p n ≡ b → option_or o (cond b (Some n) None) ≡ Some m → p m ≡ true
     go ih None true q r f = let k : n ≡ m = cc in rw (← k) r
-    go ih None false q r f = absurd (let z : ◌≡◌ {A = ℕ} 0 1 = cc in omega arith)
+    go ih None false q r f = cc
     go ih (Some x) b q r f = ih (q ∙ f)
 
 letter_piece : (b c : ℕ) → code_of_letter b ≡ Some c → (1 ≤ c) × (letter c ≡ b)
@@ -129,17 +129,16 @@ record ReadRank (d : Bool) (so_far t all rest : List ℕ) : Type 0 where
   begins : d ≡ true → Begins more
 
 -- the parts of a pair in a Some
-pair_parts : (a b r s : List ℕ) → ◌≡◌ {A = Option (List ℕ × List ℕ)} (Some (a, r)) (Some (b, s)) → (a ≡ b) × (r ≡ s)
-pair_parts a b r s e =
-    let f : ◌≡◌ {A = List ℕ × List ℕ} (a, r) (b, s) = cc in (ap (λ (x : List ℕ × List ℕ). x.0) f, ap (λ (x : List ℕ × List ℕ). x.1) f)
+pub some_parts : {X : Type 0} (a b : X) (r s : List ℕ) → ◌≡◌ {A = Option (X × List ℕ)} (Some (a, r)) (Some (b, s)) → (a ≡ b) × (r ≡ s)
+some_parts {X} a b r s e = let f : ◌≡◌ {A = X × List ℕ} (a, r) (b, s) = cc in (ap (λ (x : X × List ℕ). x.0) f, ap (λ (x : X × List ℕ). x.1) f)
 
 pub none_some : {V : Type 0} (x : V) → None ≡ Some x → ⊥
-none_some x e = let z : ◌≡◌ {A = ℕ} 0 1 = cc in omega arith
+none_some x e = cc
 
 read_full : (d : Bool) (so_far t all rest : List ℕ) → length so_far ≡ 8 → read_rank d so_far t ≡ Some (all, rest) → ReadRank d so_far t all rest
 unfolding rank_text
 read_full d so_far t all rest l e =
-    let p = pair_parts so_far all t rest (sym (rank_full d so_far t (omega arith)) ∙ e) in
+    let p = some_parts so_far all t rest (sym (rank_full d so_far t (omega arith)) ∙ e) in
     record { more = []; whole = sym p.0 ∙ sym (append-nil so_far); text = p.1; size = ap length (sym p.0) ∙ l; begins = λ _. tt }
 
 rank_only_in : (t : List ℕ) (d : Bool) (so_far all rest : List ℕ) → length so_far ≤ 8 → read_rank d so_far t ≡ Some (all, rest) → ReadRank d so_far t all rest
@@ -273,7 +272,7 @@ behind_only {X} byte r v rest e =
 pub ranks_only : (n : ℕ) (above t codes rest : List ℕ) → read_ranks n above t ≡ Some (codes, rest) → ReadRanks n above t codes rest
 unfolding read_ranks ranks_text
 ranks_only zero above t codes rest e =
-    let p = pair_parts above codes t rest e in
+    let p = some_parts above codes t rest e in
     record { lower = []; whole = sym p.0; size = refl; text = λ x. p.1 }
 ranks_only (suc n) above t codes rest e =
     let p = then_parts (behind (rank_end n) (read_rank false [] t)) (λ r t. read_ranks n (r ++ above) t) (codes, rest) e in

@@ -40,9 +40,9 @@ pub no_squares : (b : ℕ) → is_gap b ≡ false → code_of_letter b ≡ None 
 no_squares b e f = rw (e, f)
 
 -- one byte of a rank that is not full
-pub rank_end_early : (digit : Bool) (codes t : List ℕ) → length codes < 8 → length t ≡ 0 → read_rank digit codes t ≡ None
-rank_end_early digit codes [] h e = rank_short digit codes h
-rank_end_early digit codes (b ∷ t) h e = absurd (omega arith)
+pub rank_cut_short : (digit : Bool) (codes t : List ℕ) → length codes < 8 → length t ≡ 0 → read_rank digit codes t ≡ None
+rank_cut_short digit codes [] h e = rank_short digit codes h
+rank_cut_short digit codes (b ∷ t) h e = absurd (omega arith)
 
 pub rank_twice : (codes : List ℕ) (b : ℕ) (t : List ℕ) → length codes < 8 → is_gap b ≡ true → read_rank true codes (b ∷ t) ≡ None
 rank_twice codes b t h g = rank_refused true codes b t _ h (gap_squares b g) (rw g)

@@ -28,6 +28,6 @@ module _ {U V : Type 0} (f : U → V) where
       named result ∙ ap (map_value f) e ∙ kept byte (read_as (λ v. v) field) ∙ ap (behind byte) (sym (named field))
 
 -- a text that is read to its end
-pub ended : (p : Parts) (t : List ℕ) → at_end p t ≡ (if length t == 0 then Some p else None)
-ended p [] = refl
-ended p (b ∷ t) = rw (ne_eqb (length (b ∷ t)) 0 (λ e. omega arith))
+pub at_end_by_length : (p : Parts) (t : List ℕ) → at_end p t ≡ (if length t == 0 then Some p else None)
+at_end_by_length p [] = refl
+at_end_by_length p (b ∷ t) = rw (ne_eqb (length (b ∷ t)) 0 (λ e. omega arith))

@@ -15,15 +15,15 @@ use Rattle.notation.specs.Answers.{start_counters, started, start_of, start_answ
 
 not_read : (o : Option Parts) (e : NotationFault) → Err e ≡ ok_or o NotFen → start_of o ≡ Err (InLaws (InNotation e))
 not_read None e h = let f : e ≡ NotFen = cc in ap (λ x. Err (InLaws (InNotation x))) (sym f)
-not_read (Some p) e h = absurd (let z : ◌≡◌ {A = ℕ} 0 1 = cc in omega arith)
+not_read (Some p) e h = cc
 
 was_read : (o : Option Parts) (p : Parts) → Ok p ≡ ok_or o NotFen → o ≡ Some p
-was_read None p h = absurd (let z : ◌≡◌ {A = ℕ} 0 1 = cc in omega arith)
+was_read None p h = cc
 was_read (Some q) p h = let f : q ≡ p = cc in ap Some f
 
 was_judged : (o : Option Breach) (p q : Parts) → ◌≡◌ {A = Result Parts Breach} (Ok q) (elim o [ None ↦ Ok p | Some b ↦ Err b ]) → q ≡ p
 was_judged None p q h = let f : q ≡ p = cc in f
-was_judged (Some b) p q h = absurd (let z : ◌≡◌ {A = ℕ} 0 1 = cc in omega arith)
+was_judged (Some b) p q h = cc
 
 pub start_none : (t : List ℕ) (e : NotationFault) → Err e ≡ ok_or (fen_parts t) NotFen → start_answer t ≡ Err (InLaws (InNotation e))
 unfolding start_answer

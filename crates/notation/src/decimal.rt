@@ -3,7 +3,7 @@ ghost use Rattle.std.specs.Prelude.{◌≡◌, ◌<◌, ◌≤◌, length, drop}
 ghost use Rattle.notation.specs.Decimal.{digits as digits_of, read_digits, read_number};
 ghost use Rattle.notation.specs.Reader.{read_as, rest_of};
 
-/// The value of the digits in front, and the rest; a value above 65,535 comes as 65,535.
+// The value of the digits in front, and the rest; a value above 65,535 comes as 65,535.
 fn value(text: &[u8]) -> (u16, &[u8])
     ensures { (result.0, result.1.now) ≡ read_digits 0 text.now }
 {
@@ -41,6 +41,7 @@ pub fn number(text: &[u8], at: usize) -> Option<(u16, usize)>
 /// The digits of a number, at the end of an array.
 #[derive(Clone, Copy)]
 pub struct Digits {
+    // The start stands beside the array, since itoa fills it from its end and the type is `Copy`.
     bytes: [u8; 20],
     from: usize,
     ghost within: { from < 20 },

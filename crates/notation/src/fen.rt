@@ -19,7 +19,7 @@ mod fields;
 mod lay;
 mod placement;
 
-/// The parts that a text says, if it is FEN.
+// The parts that a text says, if it is FEN.
 fn setup(text: &[u8]) -> Option<Setup>
     ensures { option_map parts result ≡ fen_parts text.now }
 {

@@ -38,7 +38,7 @@ pub(crate) fn side(text: &[u8]) -> Option<(Side, &[u8])>
     }
 }
 
-/// Whether a right's letter stands in front.
+// Whether a right's letter stands in front.
 fn right(text: &[u8], letter: u8) -> (bool, &[u8])
     ensures { (result.0, result.1.now) ≡ read_right letter text.now }
 {
@@ -48,7 +48,7 @@ fn right(text: &[u8], letter: u8) -> (bool, &[u8])
     }
 }
 
-/// The castling rights of a side, by its two letters.
+// The castling rights of a side, by its two letters.
 fn castling(text: &[u8], king: u8, queen: u8) -> (Castling, &[u8])
     ensures { (result.0, result.1.now) ≡ read_castling king queen text.now }
 {
@@ -63,7 +63,7 @@ fn castling(text: &[u8], king: u8, queen: u8) -> (Castling, &[u8])
     )
 }
 
-/// Whether there is no castling right.
+// Whether there is no castling right.
 fn none(rights: Rights) -> bool
     ensures { result ≡ no_right rights }
 {

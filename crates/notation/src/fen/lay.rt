@@ -15,7 +15,7 @@ use board::square::Square;
 use laws::setup::Setup;
 use rules::rights::Rights;
 
-/// A piece of text behind what is written.
+// A piece of text behind what is written.
 fn append<const N: usize>(text: &mut ArrayVec<u8, N>, piece: &[u8])
     requires { array_vec_len text.old + length piece.now ≤ N }
     ensures items { text.new.items ≡ text.old.items ++ piece.now }
@@ -26,7 +26,7 @@ fn append<const N: usize>(text: &mut ArrayVec<u8, N>, piece: &[u8])
     }
 }
 
-/// A digit for so many empty squares in a row, if there are any.
+// A digit for so many empty squares in a row, if there are any.
 fn gap(text: &mut ArrayVec<u8, 8>, empty: u8)
     requires { array_vec_len text.old + empty ≤ 8 }
     ensures items { text.new.items ≡ text.old.items ++ gap_text empty }
@@ -37,7 +37,7 @@ fn gap(text: &mut ArrayVec<u8, 8>, empty: u8)
     }
 }
 
-/// The squares of a rank.
+// The squares of a rank.
 fn rank(squares: &[u8; 8]) -> ArrayVec<u8, 8>
     ensures { result.items ≡ rank_text 0 squares.now }
 {
@@ -56,7 +56,7 @@ fn rank(squares: &[u8; 8]) -> ArrayVec<u8, 8>
     text
 }
 
-/// The piece placement and its space.
+// The piece placement and its space.
 fn placement(codes: &[u8; 64]) -> ArrayVec<u8, 72>
     ensures { result.items ≡ ranks_text 8 codes.now }
 {
@@ -69,7 +69,7 @@ fn placement(codes: &[u8; 64]) -> ArrayVec<u8, 72>
     text
 }
 
-/// The letter of a side.
+// The letter of a side.
 fn side_letter(side: Side) -> u8
     ensures { result ≡ letter_of_side side }
 {
@@ -79,7 +79,7 @@ fn side_letter(side: Side) -> u8
     }
 }
 
-/// The letter of a right that stands.
+// The letter of a right that stands.
 fn right(text: &mut ArrayVec<u8, 4>, letter: u8, stands: bool)
     requires { array_vec_len text.old < 4 }
     ensures items { text.new.items ≡ text.old.items ++ right_text letter stands }
@@ -90,7 +90,7 @@ fn right(text: &mut ArrayVec<u8, 4>, letter: u8, stands: bool)
     }
 }
 
-/// The castling rights, or the hyphen for none.
+// The castling rights, or the hyphen for none.
 fn rights(rights: Rights) -> ArrayVec<u8, 4>
     ensures { result.items ≡ rights_text rights }
 {
@@ -105,7 +105,7 @@ fn rights(rights: Rights) -> ArrayVec<u8, 4>
     text
 }
 
-/// The name of the en passant square, or the hyphen for none.
+// The name of the en passant square, or the hyphen for none.
 fn en_passant(square: Option<Square>) -> ArrayVec<u8, 2>
     ensures { result.items ≡ en_passant_text (option_map square_number square) }
 {

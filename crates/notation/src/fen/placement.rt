@@ -7,14 +7,14 @@ use crate::fen::fields;
 use arrayvec::ArrayVec;
 use board::piece;
 
-/// Whether a byte is a digit for empty squares.
+// Whether a byte is a digit for empty squares.
 fn is_gap(byte: u8) -> bool
     ensures { result ≡ gap_digit byte }
 {
     matches!(byte, b'1'..=b'8')
 }
 
-/// The eight codes of a rank, and the rest behind it.
+// The eight codes of a rank, and the rest behind it.
 fn rank(text: &[u8]) -> Option<(ArrayVec<u8, 8>, &[u8])>
     ensures { read_as (λ codes. codes.items) result ≡ read_rank false [] text.now }
 {
@@ -52,6 +52,7 @@ pub(crate) fn placement(text: &[u8]) -> Option<([u8; 64], &[u8])>
 {
     let mut codes = [0; 64];
     let mut rest = text;
+    // The rows are counted, since std says nothing of what a table ends as behind its mutable chunks.
     for row in (0..8usize).rev() {
         let (squares, behind) = rank(rest)?;
         codes[8 * row..8 * row + 8].copy_from_slice(&squares);

@@ -1,6 +1,6 @@
 use Rattle.std.proofs.Common.{rules}
 use Rattle.notation.specs.Fen.{fen_parts}
-use Rattle.notation.proofs.Readers.{read_as_behind, ended}
+use Rattle.notation.proofs.Readers.{read_as_behind, at_end_by_length}
 use Rattle.notation.proofs.fen.setup.Goals as goal
 
 pub returns-in_err-codes : goal.returns-in_err-codes
@@ -29,4 +29,4 @@ returns-in_err-number c = search (rules, read_as_behind)
 
 pub returns : goal.returns
 unfolding fen_parts
-returns c = search (rules, read_as_behind, ended)
+returns c = search (rules, read_as_behind, at_end_by_length)

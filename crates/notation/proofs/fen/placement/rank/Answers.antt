@@ -1,10 +1,10 @@
 use Rattle.std.proofs.Common.{◌≡◌, ◌++◌, take, replicate, arith}
 use Rattle.std.proofs.lemmas.Grind.{common_steps}
-use Rattle.notation.proofs.RankSteps.{rank_full, rank_end_early, rank_twice, rank_wide, rank_other, rank_gap, rank_piece}
+use Rattle.notation.proofs.RankSteps.{rank_full, rank_cut_short, rank_twice, rank_wide, rank_other, rank_gap, rank_piece}
 use Rattle.notation.proofs.fen.placement.rank.Goals as goal
 
 pub returns-in_err-byte : goal.returns-in_err-byte
-returns-in_err-byte c = grind (arith, common_steps, rank_end_early)
+returns-in_err-byte c = grind (arith, common_steps, rank_cut_short)
 
 pub returns-then-after_gap : goal.returns-then-after_gap
 returns-then-after_gap c = grind (arith, common_steps, rank_twice)
