@@ -212,6 +212,14 @@ number_leaves (b ∷ t) v rest e =
     (λ (s : is_digit b ≡ false). let e' = rw (z, s) at e in cc) (cases_Bool (is_digit b)))
     (cases_Bool (eqb b 48))
 
+-- the place of what is left behind a place
+left_at : (t part : List ℕ) (at : ℕ) (rest : List ℕ) → part ≡ drop at t → Ends part rest → (length rest ≤ length t) × (drop (length t - length rest) t ≡ rest)
+left_at t part at rest d e =
+    let front = take at t ++ e.front in
+    let w : t ≡ front ++ rest = sym (take-append-drop at t) ∙ ap (λ x. take at t ++ x) (sym d ∙ e.is) ∙ sym (append_assoc (take at t) e.front rest) in
+    let l : length t ≡ length front + length rest = ap length w ∙ length-append front rest in
+    (omega arith, ap (drop (length t - length rest)) w ∙ drop_at front rest (length t - length rest) (omega arith))
+
 -- a number at a place, and the place behind it
 pub record NumberAt (t : List ℕ) (at v : ℕ) (rest : List ℕ) : Type 0 where
   pub fits : length rest ≤ length t
@@ -219,11 +227,6 @@ pub record NumberAt (t : List ℕ) (at v : ℕ) (rest : List ℕ) : Type 0 where
 
 pub number_at : (t : List ℕ) (at : ℕ) (part : List ℕ) (v : ℕ) (rest : List ℕ) → part ≡ slice_range t at (length t) → Some (v, rest) ≡ read_number part → NumberAt t at v rest
 number_at t at part v rest p r =
-    let e = number_leaves part v rest r in
     let d : part ≡ drop at t = p ∙ between_to_end t at (length t) (omega arith) in
-    let w : t ≡ (take at t ++ e.front) ++ rest =
-    sym (take-append-drop at t) ∙ ap (λ x. take at t ++ x) (sym d ∙ e.is) ∙ sym (append_assoc (take at t) e.front rest) in
-    let l : length t ≡ length (take at t ++ e.front) + length rest = ap length w ∙ length-append (take at t ++ e.front) rest in
-    let k : drop (length t - length rest) t ≡ rest =
-    ap (drop (length t - length rest)) w ∙ drop_at (take at t ++ e.front) rest (length t - length rest) (omega arith) in
-    record { fits = omega arith; is = ap (λ x. Some (v, x)) k ∙ r ∙ ap read_number d }
+    let l = left_at t part at rest d (number_leaves part v rest r) in
+    record { fits = l.0; is = ap (λ x. Some (v, x)) l.1 ∙ r ∙ ap read_number d }
