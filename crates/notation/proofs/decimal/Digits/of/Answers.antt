@@ -8,7 +8,7 @@ pub write_digits-from-requires : goal.write_digits-from-requires
 write_digits-from-requires c = search (rules, length-decimal-le 20)
 
 pub invariant_of-result : goal.invariant_of-result
-invariant_of-result c = record { within = let p = decimal_nonempty c.args.number (omega arith) in omega arith }
+invariant_of-result c = record { within = omega (arith, decimal_nonempty) }
 
 pub returns : goal.returns
-returns c = c.write_digits-from.ensures.written ∙ append-nil _ ∙ digits_decimal c.args.number (omega arith)
+returns c = c.write_digits-from.ensures.written ∙ append-nil _ ∙ digits_decimal _ (omega arith)
