@@ -1,6 +1,7 @@
 -- The castling texts by their bytes are those that SAN spells.
 use Rattle.std.proofs.Common.{◌≡◌, ℕ, suc, ◌≤◌, Bool, true, false, cond, ◌||◌, List, [], ◌∷◌, ◌++◌, reverse, length, get_or, drop, Some, None, codes as bytes, Option, sym, refl, ap, ◌∙◌, subst, inl, inr, arith}
 use Rattle.std.proofs.lemmas.Slice.Eq.{text_from_reads}
+use Rattle.std.specs.Option.{option_or}
 use Rattle.san.specs.Said.{Said, castling, going}
 use Rattle.san.specs.Text.{same_bytes, is_check_mark, without_first, read_promotion, read_castling, read_text, CheckMark, Spells, piece, kingside, queenside}
 use Rattle.san.proofs.Sans.{reads_spelling}
@@ -8,7 +9,6 @@ use Rattle.rules.specs.declared.rights.Wing.{Wing}
 use Rattle.rules.specs.declared.rights.Wing.TheVariants.{Kingside, Queenside}
 use Rattle.movetext.specs.Said.{is_queenside}
 use Rattle.movetext.specs.Castling.{ReadsAt, Ends, Ended, Castles}
-use Rattle.movetext.proofs.Reading.{no_bytes, piece_none}
 
 reads_rest : (x : ℕ) (s : List ℕ) (i : ℕ) (p : List ℕ) → ReadsAt (x ∷ s) (suc i) p → ReadsAt s i p
 reads_rest x s i [] h = tt
@@ -21,7 +21,8 @@ begins (c ∷ p) [] l h = absurd (omega arith)
 begins (c ∷ p) (x ∷ s) l (e, h) = let w = begins p s (omega arith) (reads_rest x s 0 p h) in λ i. e i ∷ w i
 
 ends_mark : (c : List ℕ) → Ends c → CheckMark c
-ends_mark c (inl l) = inl (no_bytes c l)
+ends_mark [] (inl l) = inl refl
+ends_mark (x ∷ c) (inl l) = absurd (omega arith)
 ends_mark c (inr (inl (l, h))) = inr (inl (text_from_reads c (bytes "+") l h))
 ends_mark c (inr (inr (l, h))) = inr (inr (text_from_reads c (bytes "#") l h))
 
@@ -64,10 +65,18 @@ only_castling xs k f r t q e = by (same_bytes xs (bytes "O-O") || same_bytes xs 
     by false true e = let z : ◌≡◌ {A = ℕ} 0 1 = cc in omega arith
     by false false e = let z : ◌≡◌ {A = ℕ} 0 1 = cc in omega arith
 
--- neither castling nor the move of a piece
-pub neither_read : (s ys : List ℕ) → ((w : Wing) → Castles w s → ⊥) → ys ≡ without_first is_check_mark (reverse s) → None ≡ read_promotion ys → read_text s ≡ None
-neither_read s ys never e h = by (read_text s) refl
+-- a text that is no castling text says the move of a piece, if it says anything
+pub piece_read : (s : List ℕ) → ((w : Wing) → Castles w s → ⊥) → read_text s ≡ read_promotion (without_first is_check_mark (reverse s))
+unfolding read_text
+piece_read s never = by (read_promotion xs) refl
   where
-    by : (o : Option Said) → read_text s ≡ o → o ≡ None
-    by None z = refl
-    by (Some d) z = absurd (either_spelled s d ((reads_spelling s d).0 z) never (λ k f r t q g. only_castling ys k f r t q (sym (piece_none s ys e h) ∙ z ∙ ap {B = Option Said} Some g)))
+    xs : List ℕ
+    xs = without_first is_check_mark (reverse s)
+
+    no_castling : (o : Option Said) → read_promotion xs ≡ None → read_castling xs ≡ o → o ≡ None
+    no_castling None p z = refl
+    no_castling (Some d) p z = absurd (either_spelled s d ((reads_spelling s d).0 (ap (λ o. option_or o (read_castling xs)) p ∙ z)) never (λ k f r t q g. only_castling xs k f r t q (z ∙ ap {B = Option Said} Some g)))
+
+    by : (o : Option Said) → read_promotion xs ≡ o → option_or o (read_castling xs) ≡ o
+    by None p = no_castling (read_castling xs) p refl
+    by (Some d) p = refl

@@ -1,2 +1,2 @@
-mod Reading
-mod Castling
+pub mod Castling
+pub mod Reading

@@ -1,29 +1,19 @@
 //! Move text read, from its end: there each byte tells by itself which part it belongs to.
-ghost use Rattle.std.specs.Prelude.{◌≡◌, ◌+◌, ◌-◌, ◌*◌, true, false, ◌&&◌, [], ◌∷◌, reverse, Some, Decides, MatchOption};
+ghost use Rattle.std.specs.Prelude.{◌≡◌, ◌+◌, ◌-◌, ◌*◌, ◌≤◌, ◌&&◌, ◌↔◌, if◌then◌else◌, reverse, IsTrue, Some, None, MatchOption};
 ghost use Rattle.std.specs.Option.{option_map, ok_or};
 ghost use Rattle.faults.specs.declared.NotationFault.TheVariants.{NotMoveText};
 ghost use Rattle.moves.specs.Action.{promotion_number};
-ghost use Rattle.san.specs.Text.{is_file as names_file, is_rank as names_rank, is_check_mark, letter_kind, is_promotion, without_first, first_says, is_capture_mark, is_equals, read_kind, read_origin, read_target, read_promotion, read_text};
+ghost use Rattle.san.specs.Text.{is_file as names_file, is_rank as names_rank, letter_kind, is_promotion, without_first, first_says, read_kind, read_origin, read_target, read_promotion, read_text};
 ghost use Rattle.movetext.specs.Castling.{Castles, Ends};
 ghost use Rattle.movetext.specs.Said.{piece_said, read_said, kind_number};
+ghost use Rattle.movetext.specs.Marks.{is_one_of, is_mark};
 
 use crate::text::{MoveText, PieceText};
 use board::piece::Kind;
-use faults::NotationFault;
 use board::square::Square;
+use faults::NotationFault;
 use moves::action::Promotion;
 use rules::rights::Wing;
-
-// What stands before a text's last byte, and that byte.
-fn last(text: &[u8]) -> Option<(&[u8], u8)>
-    ensures { MatchOption result (text.now ≡ []) (λ x. reverse text.now ≡ x.1 ∷ reverse x.0.now) }
-{
-    let n = text.len();
-    if n == 0 {
-        return None;
-    }
-    Some((&text[..n - 1], text[n - 1]))
-}
 
 // The kind that a letter stands for.
 fn letter(byte: u8) -> Option<Kind>
@@ -41,20 +31,20 @@ fn letter(byte: u8) -> Option<Kind>
 
 // What a pawn becomes by the letter behind its target.
 fn promotion(byte: u8) -> Option<Promotion>
-    ensures { MatchOption result (is_promotion byte ≡ false) (λ p. (is_promotion byte ≡ true) × (letter_kind byte ≡ promotion_number (Some p))) }
+    ensures { option_map (λ p. promotion_number (Some p)) result ≡ (if is_promotion byte then Some (letter_kind byte) else None) }
 {
-    match letter(byte)? {
-        Kind::Knight => Some(Promotion::Knight),
-        Kind::Bishop => Some(Promotion::Bishop),
-        Kind::Rook => Some(Promotion::Rook),
-        Kind::Queen => Some(Promotion::Queen),
-        Kind::Pawn | Kind::King => None,
+    match byte {
+        b'N' => Some(Promotion::Knight),
+        b'B' => Some(Promotion::Bishop),
+        b'R' => Some(Promotion::Rook),
+        b'Q' => Some(Promotion::Queen),
+        _ => None,
     }
 }
 
 // The square of a file and a rank.
 fn square(file: u8, rank: u8) -> Option<Square>
-    ensures { MatchOption result ((names_rank rank && names_file file) ≡ false) (λ s. ((names_rank rank && names_file file) ≡ true) × (s.number ≡ 8 * (rank - 49) + (file - 97))) }
+    ensures { option_map (λ s. s.number) result ≡ (if names_rank rank && names_file file then Some (8 * (rank - 49) + (file - 97)) else None) }
 {
     match (file, rank) {
         (b'a'..=b'h', b'1'..=b'8') => Square::new(8 * (rank - b'1') + (file - b'a')),
@@ -62,54 +52,24 @@ fn square(file: u8, rank: u8) -> Option<Square>
     }
 }
 
-// A text without + or # at its end.
-fn without_check(text: &[u8]) -> &[u8]
-    ensures { reverse result.now ≡ without_first is_check_mark (reverse text.now) }
+// A text without a mark at its end.
+fn without_last<'a>(text: &'a [u8], marks: &[u8]) -> &'a [u8]
+    ensures { reverse result.now ≡ without_first (is_one_of marks.now) (reverse text.now) }
 {
-    match last(text) {
-        Some((front, b'+' | b'#')) => front,
+    match text.split_last() {
+        Some((byte, front)) if marks.contains(byte) => front,
         _ => text,
     }
 }
 
-// A text without = at its end.
-fn without_equals(text: &[u8]) -> &[u8]
-    ensures { reverse result.now ≡ without_first is_equals (reverse text.now) }
+// What a text's end says, a file or a rank, counted from the first of the eight, and the text without it.
+fn last_mark(text: &[u8], first: u8) -> (Option<u8>, &[u8])
+    requires { first ≤ 248 }
+    ensures says { result.0 ≡ first_says (is_mark first) first (reverse text.now) }
+    ensures rest { reverse result.1.now ≡ without_first (is_mark first) (reverse text.now) }
 {
-    match last(text) {
-        Some((front, b'=')) => front,
-        _ => text,
-    }
-}
-
-// A text without x at its end.
-fn without_capture(text: &[u8]) -> &[u8]
-    ensures { reverse result.now ≡ without_first is_capture_mark (reverse text.now) }
-{
-    match last(text) {
-        Some((front, b'x')) => front,
-        _ => text,
-    }
-}
-
-// The rank at a text's end, if there is one, and the text without it.
-fn rank_mark(text: &[u8]) -> (Option<u8>, &[u8])
-    ensures says { result.0 ≡ first_says names_rank 49 (reverse text.now) }
-    ensures rest { reverse result.1.now ≡ without_first names_rank (reverse text.now) }
-{
-    match last(text) {
-        Some((front, rank @ b'1'..=b'8')) => (Some(rank - b'1'), front),
-        _ => (None, text),
-    }
-}
-
-// The file at a text's end, if there is one, and the text without it.
-fn file_mark(text: &[u8]) -> (Option<u8>, &[u8])
-    ensures says { result.0 ≡ first_says names_file 97 (reverse text.now) }
-    ensures rest { reverse result.1.now ≡ without_first names_file (reverse text.now) }
-{
-    match last(text) {
-        Some((front, file @ b'a'..=b'h')) => (Some(file - b'a'), front),
+    match text.split_last() {
+        Some((byte, front)) if (first..=first + 7).contains(byte) => (Some(*byte - first), front),
         _ => (None, text),
     }
 }
@@ -126,11 +86,12 @@ fn piece_kind(text: &[u8]) -> Option<Kind>
 }
 
 // The move of a piece to a target, by the text before the target.
+#[tactic(auto, using(crate::proofs::Reading::without_capture), unfolding(san::specs::Text::read_origin))]
 fn origin(text: &[u8], to: Square, promotion: Option<Promotion>) -> Option<PieceText>
     ensures { option_map piece_said result ≡ read_origin (promotion_number promotion) to.number (reverse text.now) }
 {
-    let (rank, before_rank) = rank_mark(without_capture(text));
-    let (file, before_file) = file_mark(before_rank);
+    let (rank, before_rank) = last_mark(without_last(text, b"x"), b'1');
+    let (file, before_file) = last_mark(before_rank, b'a');
     let kind = piece_kind(before_file)?;
     Some(PieceText {
         kind,
@@ -142,36 +103,33 @@ fn origin(text: &[u8], to: Square, promotion: Option<Promotion>) -> Option<Piece
 }
 
 // The move of a piece, by a text that its target ends.
+#[tactic(auto, unfolding(san::specs::Text::read_target))]
 fn target(text: &[u8], promotion: Option<Promotion>) -> Option<PieceText>
     ensures { option_map piece_said result ≡ read_target (promotion_number promotion) (reverse text.now) }
 {
-    let (before_rank, rank) = last(text)?;
-    let (before_file, file) = last(before_rank)?;
-    let to = square(file, rank)?;
+    let (rank, before_rank) = text.split_last()?;
+    let (file, before_file) = before_rank.split_last()?;
+    let to = square(*file, *rank)?;
     origin(before_file, to, promotion)
 }
 
 // The move of a piece, by a text without + or # at its end.
+#[tactic(auto, using(crate::proofs::Reading::without_equals), unfolding(san::specs::Text::read_promotion))]
 fn piece(text: &[u8]) -> Option<PieceText>
     ensures { option_map piece_said result ≡ read_promotion (reverse text.now) }
 {
-    let (front, byte) = last(text)?;
-    match promotion(byte) {
-        Some(chosen) => target(without_equals(front), Some(chosen)),
+    let (byte, front) = text.split_last()?;
+    match promotion(*byte) {
+        Some(chosen) => target(without_last(front, b"="), Some(chosen)),
         None => target(text, None),
     }
 }
 
 // Whether a text is nothing, + or #.
 fn ends(text: &[u8]) -> bool
-    ensures { Decides result (Ends text.now) }
+    ensures { IsTrue result ↔ Ends text.now }
 {
-    match text {
-        [] => true,
-        [b'+'] => true,
-        [b'#'] => true,
-        _ => false,
-    }
+    matches!(text, [] | [b'+' | b'#'])
 }
 
 // The castling side that a text spells, with its + or #.
@@ -179,23 +137,24 @@ fn castling(text: &[u8]) -> Option<Wing>
     ensures { MatchOption result ((w : Wing) → Castles w text.now → ⊥) (λ w. Castles w text.now) }
 {
     match text {
-        [b'O', b'-', b'O', b'-', b'O', rest @ ..] if ends(rest) => Some(Wing::Queenside),
-        [b'0', b'-', b'0', b'-', b'0', rest @ ..] if ends(rest) => Some(Wing::Queenside),
-        [b'O', b'-', b'O', rest @ ..] if ends(rest) => Some(Wing::Kingside),
-        [b'0', b'-', b'0', rest @ ..] if ends(rest) => Some(Wing::Kingside),
+        [b'O', b'-', b'O', b'-', b'O', rest @ ..] | [b'0', b'-', b'0', b'-', b'0', rest @ ..]
+            if ends(rest) => { Some(Wing::Queenside) }
+        [b'O', b'-', b'O', rest @ ..] | [b'0', b'-', b'0', rest @ ..] if ends(rest) => {
+            Some(Wing::Kingside)
+        }
         _ => None,
     }
 }
 
 /// What a move text says, or the fault that it is none.
+#[tactic(auto, using(crate::proofs::Reading::without_check, crate::proofs::Castling::castles_read, crate::proofs::Castling::piece_read))]
 pub fn read(text: &[u8]) -> Result<MoveText, NotationFault>
     ensures { read_said result ≡ ok_or (read_text text.now) NotMoveText }
 {
     if let Some(wing) = castling(text) {
         return Ok(MoveText::Castling(wing));
     }
-    match piece(without_check(text)) {
-        Some(said) => Ok(MoveText::Piece(said)),
-        None => Err(NotationFault::NotMoveText),
-    }
+    piece(without_last(text, b"+#"))
+        .map(MoveText::Piece)
+        .ok_or(NotationFault::NotMoveText)
 }
