@@ -1,5 +1,5 @@
 -- What the code reads of a text from its end is what the definitions read of the text turned round.
-use Rattle.std.proofs.Common.{◌≡◌, ℕ, Bool, if◌then◌else◌, ◌||◌, false, List, [], ◌∷◌, codes as bytes, refl, ap, nat_eq, arith}
+use Rattle.std.proofs.Common.{◌≡◌, ℕ, Bool, if◌then◌else◌, ◌||◌, List, [], ◌∷◌, codes as bytes, refl, ap, nat_eq, arith}
 use Rattle.san.specs.Text.{is_capture_mark, is_equals, is_check_mark, without_first}
 use Rattle.movetext.specs.Marks.{is_one_of}
 
