@@ -27,8 +27,9 @@ pub fn leaves<B: Board>(
     if depth == 1 {
         return Ok(moves.len() as u64);
     }
+    // A loop: in a `try_fold` the closure would borrow the board, call this function and answer a Result, which is no plainer.
     let mut total = 0u64;
-    for m in moves.as_slice() {
+    for m in &moves {
         if let Some(next) = after(board, position, *m) {
             total = total.saturating_add(leaves(heap, board, &next, depth - 1)?);
         }
