@@ -1,8 +1,9 @@
 //! Positions drawn as text: what is drawn of each line of FEN of an input.
 #![tactic(auto)]
 
-ghost use Rattle.std.specs.Prelude.{◌≡◌, ◌++◌, IfOk, OnOk};
-ghost use Rattle.drawing.specs.Drawing.{input_drawn, line_drawn};
+ghost use Rattle.std.specs.Prelude.{◌≡◌, ◌++◌, IfOk, OnOk, ◌==◌};
+ghost use Rattle.std.specs.List.{before_first, after_first};
+ghost use Rattle.drawing.specs.Drawing.{input_drawn, line_drawn, line_feed};
 
 use board::Board;
 use notation::fen;
@@ -26,6 +27,17 @@ fn draw_line<B: Board>(
     }
 }
 
+// The first line of an input, and what stands behind it; the last line may lack its line feed.
+fn first_line(input: &[u8]) -> (&[u8], &[u8])
+    ensures line { result.0.now ≡ before_first (λ b. b == line_feed) input.now }
+    ensures behind { result.1.now ≡ after_first (λ b. b == line_feed) input.now }
+{
+    match input.iter().position(|byte| *byte == b'\n') {
+        Some(at) => (&input[..at], &input[at + 1..]),
+        None => (input, &[]),
+    }
+}
+
 /// What is drawn of an input, line by line: the position of a line of FEN, or the fault that the line has.
 pub fn draw_input<B: Board + Drop>(
     heap: Global,
@@ -35,23 +47,15 @@ pub fn draw_input<B: Board + Drop>(
     ensures { IfOk result (λ out. out.items ≡ input_drawn input.now) }
 {
     let mut out = Vec::new(heap);
-    let mut start = 0;
+    let mut rest = input;
     let mut line = 1;
-    for (at, byte) in input.iter().enumerate() {
-        if *byte == b'\n' {
-            draw_line(&mut out, &mut board, &input[start..at], start, line)?;
-            start = at + 1;
-            line += 1;
-        }
-    }
-    if start < input.len() {
-        draw_line(
-            &mut out,
-            &mut board,
-            &input[start..input.len()],
-            start,
-            line,
-        )?;
+    // Not a `for` over `split_inclusive`: an invariant over an iterator that holds a closure is refused in a generic function.
+    while !rest.is_empty() {
+        let byte = input.len() - rest.len();
+        let (text, behind) = first_line(rest);
+        draw_line(&mut out, &mut board, text, byte, line)?;
+        rest = behind;
+        line += 1;
     }
     Ok(out)
 }

@@ -1,6 +1,9 @@
-use Rattle.std.proofs.Common.{◌+◌, ◌≤◌, vec_items}
+use Rattle.std.proofs.Common.{length, vec_items}
 use Rattle.drawing.proofs.Lines.{GoesOn}
 use Rattle.drawing.proofs.draw_input.Given as goal
 
-abbrev pub invariant-loop-at : goal.invariant-loop-at
-invariant-loop-at g l = (l.start ≤ l.at) × (l.line ≤ l.at + 1) × GoesOn l.input (vec_items l.out) l.start l.line l.at
+abbrev pub invariant-loop-rest : goal.invariant-loop-rest
+invariant-loop-rest g l = GoesOn l.input (vec_items l.out) l.rest l.line
+
+abbrev pub decreases-loop-rest : goal.decreases-loop-rest
+decreases-loop-rest g l = length l.rest
