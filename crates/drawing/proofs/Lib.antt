@@ -1,2 +1,3 @@
 mod Chains
+pub mod Decimals
 mod Lines

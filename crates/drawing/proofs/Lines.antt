@@ -1,5 +1,5 @@
 -- One line more of an input, and its end.
-use Rattle.std.proofs.Common.{◌≡◌, ℕ, suc, ◌+◌, ◌-◌, ◌<◌, ◌≤◌, Bool, true, false, if◌then◌else◌, List, [], ◌∷◌, ◌++◌, length, not, take, drop, Some, None, position, sym, refl, ap, ◌∙◌, append_assoc, ◌==◌, one-add, arith}
+use Rattle.std.proofs.Common.{◌≡◌, ℕ, suc, ◌+◌, ◌-◌, ◌<◌, ◌≤◌, Bool, true, false, List, [], ◌∷◌, ◌++◌, length, take, drop, Some, None, position, sym, refl, ap, ◌∙◌, append_assoc, ◌==◌, one-add, arith}
 use Rattle.std.specs.List.{before_first, after_first, position_or_len}
 use Rattle.std.proofs.lemmas.List.{append-nil, length_push, length-take, length-drop, take_all, drop_all}
 use Rattle.drawing.specs.Drawing.{rest_drawn, line_drawn, line_feed, input_drawn}

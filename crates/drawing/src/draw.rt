@@ -1,7 +1,6 @@
 //! The parts of a drawing.
 ghost use Rattle.std.specs.Prelude.{◌≡◌, ◌+◌, ◌-◌, ◌<◌, ◌++◌, OnOk};
 ghost use Rattle.laws.specs.Position.{position_parts};
-ghost use Rattle.notation.specs.Decimal.{digits};
 ghost use Rattle.notation.specs.Fen.{fen as fen_text};
 ghost use Rattle.drawing.specs.Drawing.{rank_drawn, ranks_drawn, turn_drawn, position_drawn, fault_drawn};
 
@@ -10,36 +9,28 @@ use board::side::Side;
 use board::{Board, piece};
 use faults::SheetFault;
 use laws::position::Position;
-use notation::decimal::Digits;
 use notation::fen;
 use std::alloc::AllocError;
-
-// A text behind what is there.
-fn text(out: &mut Vec<u8>, bytes: &[u8]) -> Result<(), AllocError>
-    ensures { OnOk result (out.new.items ≡ out.old.items ++ bytes.now) }
-{
-    out.extend_from_slice(bytes)
-}
 
 // A rank, counted from 0, behind its number.
 fn rank(out: &mut Vec<u8>, codes: &[u8; 64], rank: u8) -> Result<(), AllocError>
     requires { rank < 8 }
     ensures { OnOk result (out.new.items ≡ out.old.items ++ rank_drawn codes.now rank) }
 {
-    text(out, &[b'1' + rank])?;
-    for file in 0..8usize {
-        text(out, &[b' ', piece::letter(codes[8 * rank as usize + file])])?;
+    out.extend_from_slice(&[b'1' + rank])?;
+    let first = 8 * usize::from(rank);
+    for code in &codes[first..first + 8] {
+        out.extend_from_slice(&[b' ', piece::letter(*code)])?;
     }
-    text(out, &[b'\n'])?;
-    Ok(())
+    out.extend_from_slice(b"\n")
 }
 
 // The ranks from the eighth down.
 fn ranks(out: &mut Vec<u8>, codes: &[u8; 64]) -> Result<(), AllocError>
     ensures { OnOk result (out.new.items ≡ out.old.items ++ ranks_drawn codes.now 8) }
 {
-    for above in 0..8u8 {
-        rank(out, codes, 7 - above)?;
+    for index in (0..8u8).rev() {
+        rank(out, codes, index)?;
     }
     Ok(())
 }
@@ -62,10 +53,9 @@ fn fen_line(out: &mut Vec<u8>, position: &Position) -> Result<(), AllocError>
 {
     let mut line = [0; 124];
     match fen::write(position, &mut line) {
-        Ok(length) => text(out, &line[0..length])?,
+        Ok(length) => out.extend_from_slice(&line[..length]),
         Err(_) => unreachable(),
     }
-    Ok(())
 }
 
 /// A position, with the board left to show it.
@@ -79,21 +69,14 @@ pub(crate) fn position<B: Board>(
     position.show(board);
     let side = position.setup.side;
     ranks(out, &position.setup.codes)?;
-    text(out, b"  a b c d e f g h\n")?;
-    text(out, turn(side, in_check(board, side)))?;
+    out.extend_from_slice(b"  a b c d e f g h\n")?;
+    out.extend_from_slice(turn(side, in_check(board, side)))?;
     fen_line(out, position)?;
-    text(out, b"\n\n")?;
-    Ok(())
+    out.extend_from_slice(b"\n\n")
 }
 
-// A number in decimal digits.
-fn number(out: &mut Vec<u8>, number: u64) -> Result<(), AllocError>
-    ensures { OnOk result (out.new.items ≡ out.old.items ++ digits number) }
-{
-    text(out, Digits::of(number).text())
-}
-
-/// A fault, of a line that starts at a byte and has a number.
+/// A fault of a line that starts at a byte of the input and has a number.
+#[tactic(auto, using(crate::proofs::Decimals::decimal_digits), unfolding(crate::specs::Drawing::fault_drawn))]
 pub(crate) fn fault(
     out: &mut Vec<u8>,
     fault: SheetFault,
@@ -102,14 +85,10 @@ pub(crate) fn fault(
 ) -> Result<(), AllocError>
     ensures { OnOk result (out.new.items ≡ out.old.items ++ fault_drawn fault byte line) }
 {
-    text(out, b"% fault ")?;
-    number(out, fault.number() as u64)?;
-    text(out, b" layer ")?;
-    number(out, fault.layer() as u64)?;
-    text(out, b" byte ")?;
-    number(out, byte as u64)?;
-    text(out, b" line ")?;
-    number(out, line as u64)?;
-    text(out, b"\n\n")?;
-    Ok(())
+    let number = fault.number();
+    let layer = fault.layer();
+    let text = format!(in *out.allocator();
+        "% fault {number} layer {layer} byte {byte} line {line}\n\n"
+    )?;
+    out.extend_from_slice(text.as_bytes())
 }
