@@ -19,29 +19,16 @@ mod tests {
         }
     }
 
-    // Looks at each square of a list.
+    // Whether the board has a list's code on each of its squares.
     fn shows<B: Board>(board: &B, men: &[(u8, u8)]) -> bool {
-        for (code, square) in men {
-            if board.look(*square) != *code {
-                return false;
-            }
-        }
-        true
+        men.iter()
+            .all(|(code, square)| board.look(*square) == *code)
     }
 
     // Whether a side attacks every square of one list and none of another.
     fn attacks<B: Board>(board: &B, by: Side, these: &[u8], not: &[u8]) -> bool {
-        for square in these {
-            if !board.attacked(by, *square) {
-                return false;
-            }
-        }
-        for square in not {
-            if board.attacked(by, *square) {
-                return false;
-            }
-        }
-        true
+        these.iter().all(|square| board.attacked(by, *square))
+            && !not.iter().any(|square| board.attacked(by, *square))
     }
 
     fn looks_and_puts<B: Board>(rt: &impl Abort, board: &mut B) {

@@ -5,14 +5,10 @@ use drawing::draw_input;
 use mailbox::Mailbox;
 use std::io::{Read, Write};
 
-fn run(rt: &HostRuntime) -> anyhow::Result<()> {
+fn main(rt: HostRuntime) -> anyhow::Result<()> {
     let mut input = Vec::new(rt.alloc());
     rt.stdin().read_to_end(&mut input)?;
     let drawn = draw_input(rt.alloc(), Mailbox::new(), &input)?;
     rt.stdout().write_all(&drawn)?;
     Ok(())
-}
-
-fn main(rt: HostRuntime) -> anyhow::Result<()> {
-    run(&rt)
 }

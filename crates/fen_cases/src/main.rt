@@ -10,10 +10,9 @@ use std::io::{BufRead, BufReader};
 
 // The number that a text gets on a board, 0 where it is accepted.
 fn number<B: Board>(board: &mut B, text: &[u8]) -> u8 {
-    match fen::read(board, text) {
-        Ok(_) => 0,
-        Err(fault) => fault.number(),
-    }
+    fen::read(board, text)
+        .err()
+        .map_or(0, |fault| fault.number())
 }
 
 // Whether a line's text gets the number in front of it, on both makes of board.
@@ -22,12 +21,11 @@ fn passes(line: &[u8]) -> bool {
         return false;
     };
     let wanted = 10 * (*tens - b'0') + (*ones - b'0');
-    let by_mailbox = number(&mut Mailbox::new(), text) == wanted;
-    let by_bitboard = number(&mut Bitboard::new(), text) == wanted;
-    by_mailbox & by_bitboard
+    number(&mut Mailbox::new(), text) == wanted && number(&mut Bitboard::new(), text) == wanted
 }
 
-fn run(rt: &HostRuntime) -> anyhow::Result<()> {
+fn main(rt: HostRuntime) -> anyhow::Result<()> {
+    // Counted in the loop, which also reads and prints and may fail: `filter` and `count` would read the lines twice.
     let mut all = 0u32;
     let mut failed = 0u32;
     for line in BufReader::new(rt.alloc(), rt.stdin())?.lines(rt.alloc()) {
@@ -40,8 +38,4 @@ fn run(rt: &HostRuntime) -> anyhow::Result<()> {
     }
     println!(rt; "{all} texts, {failed} with another answer")?;
     Ok(())
-}
-
-fn main(rt: HostRuntime) -> anyhow::Result<()> {
-    run(&rt)
 }

@@ -11,10 +11,8 @@ use tree::leaves;
 
 // The leaves that a line asks for, on a board.
 fn count<B: Board>(rt: &HostRuntime, board: &mut B, text: &[u8], depth: u8) -> anyhow::Result<u64> {
-    match fen::read(board, text) {
-        Ok(position) => Ok(leaves(rt.alloc(), board, &position, depth)?),
-        Err(_) => Err(anyhow!("not a start position")),
-    }
+    let position = fen::read(board, text).map_err(|_| anyhow!("not a start position"))?;
+    Ok(leaves(rt.alloc(), board, &position, depth)?)
 }
 
 fn answer(rt: &HostRuntime, line: &str) -> anyhow::Result<()> {
@@ -33,14 +31,9 @@ fn answer(rt: &HostRuntime, line: &str) -> anyhow::Result<()> {
     Ok(())
 }
 
-fn run(rt: &HostRuntime) -> anyhow::Result<()> {
+fn main(rt: HostRuntime) -> anyhow::Result<()> {
     for line in BufReader::new(rt.alloc(), rt.stdin())?.lines(rt.alloc()) {
-        let line = line?;
-        answer(rt, line.as_str())?;
+        answer(&rt, line?.as_str())?;
     }
     Ok(())
-}
-
-fn main(rt: HostRuntime) -> anyhow::Result<()> {
-    run(&rt)
 }
