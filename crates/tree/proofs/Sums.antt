@@ -22,21 +22,21 @@ sum_by-map f [] = refl
 sum_by-map f (m ∷ ms) = let e = sum_by-map f ms in let s = sum_by-cons f (plain m) (map plain ms) in let t = sum_by-cons (λ x. f (plain x)) m ms in cc
 
 -- the leaves from a position are those behind its legal moves
-pub leaf_count-suc : (p : Parts) (n : ℕ) (ms : List Move) → map plain ms ≡ legal_moves p → leaf_count p (n + 1) ≡ sum_by (leaves_by p n) ms
+pub leaf_count_suc : (p : Parts) (n : ℕ) (ms : List Move) → map plain ms ≡ legal_moves p → leaf_count p (n + 1) ≡ sum_by (leaves_by p n) ms
 unfolding leaf_count
-leaf_count-suc p n ms e = rw (add-one, ← e) (sum_by-map (λ m. leaf_count (after p m) n) ms)
+leaf_count_suc p n ms e = rw (add-one, ← e) (sum_by-map (λ m. leaf_count (after p m) n) ms)
 
-pub leaf_count-zero : (p : Parts) → leaf_count p 0 ≡ 1
+pub leaf_count_zero : (p : Parts) → leaf_count p 0 ≡ 1
 unfolding leaf_count
-leaf_count-zero p = refl
+leaf_count_zero p = refl
 
 -- at the last move each leaf is a legal move
-pub leaf_count-one : (p : Parts) (ms : List Move) → map plain ms ≡ legal_moves p → leaf_count p 1 ≡ length ms
-leaf_count-one p ms e = leaf_count-suc p 0 ms e ∙ ones ms
+pub leaf_count_one : (p : Parts) (ms : List Move) → map plain ms ≡ legal_moves p → leaf_count p 1 ≡ length ms
+leaf_count_one p ms e = leaf_count_suc p 0 ms e ∙ ones ms
   where
     ones : (ms : List Move) → sum_by (leaves_by p 0) ms ≡ length ms
     ones [] = refl
-    ones (m ∷ ms) = let z = leaf_count-zero (after p (plain m)) in let s = sum_by-cons (leaves_by p 0) m ms in let e = ones ms in omega arith
+    ones (m ∷ ms) = let z = leaf_count_zero (after p (plain m)) in let s = sum_by-cons (leaves_by p 0) m ms in let e = ones ms in omega arith
 
 -- what is kept passes
 kept_passes : (f : rules.Move → Bool) (xs : List rules.Move) → All (λ x. f x ≡ true) (keep f xs)
