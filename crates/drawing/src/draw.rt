@@ -1,4 +1,4 @@
-//! The parts of a drawing.
+//! The parts of a drawing, each written behind what the buffer has. A struct around the one `Vec` would only forward to it.
 ghost use Rattle.std.specs.Prelude.{◌≡◌, ◌+◌, ◌-◌, ◌<◌, ◌++◌, OnOk};
 ghost use Rattle.laws.specs.Position.{position_parts};
 ghost use Rattle.notation.specs.Fen.{fen as fen_text};
@@ -51,6 +51,7 @@ fn turn(side: Side, check: bool) -> &'static [u8]
 fn fen_line(out: &mut Vec<u8>, position: &Position) -> Result<(), AllocError>
     ensures { OnOk result (out.new.items ≡ out.old.items ++ fen_text (position_parts position.now)) }
 {
+    // The longest FEN fits, so the write does not fail.
     let mut line = [0; 124];
     match fen::write(position, &mut line) {
         Ok(length) => out.extend_from_slice(&line[..length]),

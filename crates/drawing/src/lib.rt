@@ -11,7 +11,7 @@ use std::alloc::{AllocError, Global};
 
 mod draw;
 
-// Draws what a line says, which starts at a byte of the input and has a number.
+// Draws what a line says, which starts at a byte of the input and has a number. A struct for these two would serve the fault alone.
 fn draw_line<B: Board>(
     out: &mut Vec<u8>,
     board: &mut B,

@@ -12,7 +12,7 @@ use moves::legal::{after, legal_moves};
 use std::alloc::{AllocError, Global};
 
 /// How many positions legal play leads to in exactly so many moves, each way to one counted; at most 2^64 − 1.
-#[tactic(auto, using(crate::proofs::Sums::leaf_count_zero, crate::proofs::Sums::leaf_count_one, crate::proofs::Sums::leaf_count_suc, std::proofs::lemmas::List::take_all, std::proofs::lemmas::List::Sums::sum_by_more, crate::proofs::Sums::listed_after))]
+#[tactic(auto, using(crate::proofs::Sums::leaf_counts))]
 pub fn leaves<B: Board>(
     heap: Global,
     board: &mut B,
