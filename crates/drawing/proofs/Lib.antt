@@ -1,3 +1,2 @@
 mod Chains
-pub mod Decimals
 mod Lines

@@ -77,7 +77,7 @@ pub(crate) fn position<B: Board>(
 }
 
 /// A fault of a line that starts at a byte of the input and has a number.
-#[tactic(auto, using(crate::proofs::Decimals::decimal_digits), unfolding(crate::specs::Drawing::fault_drawn))]
+#[tactic(auto, using(notation::proofs::DecimalLaws::digits_decimal), unfolding(crate::specs::Drawing::fault_drawn))]
 pub(crate) fn fault(
     out: &mut Vec<u8>,
     fault: SheetFault,
