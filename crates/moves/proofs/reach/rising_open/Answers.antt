@@ -1,14 +1,6 @@
-use Rattle.std.proofs.Common.{◌+◌, false, refl, arith}
-use Rattle.std.proofs.lemmas.Bool.{both_ways}
-use Rattle.moves.proofs.PathLaws.{walk_on, walk_emptied, walk_stopped, walk_ended}
+use Rattle.std.proofs.Common.{◌+◌, refl, arith}
+use Rattle.moves.proofs.PathLaws.{walk_on, walk_emptied, walk_ended}
 use Rattle.moves.proofs.reach.rising_open.Goals as goal
-
-pub returns-then-codes-at-ne0 : goal.returns-then-codes-at-ne0
-returns-then-codes-at-ne0 c = λ l on. (
-  λ e. absurd (both_ways false refl e),
-  λ f. absurd (walk_stopped c.args.codes.now _ _ _ _ _ c.requires c.args.high.on_board c.step_between-step.ensures.step c.loop-at.invariant.1 l on (omega arith)
-      c.if-codes-at-ne0.true f),
-)
 
 pub loop-at-preserved : goal.loop-at-preserved
 loop-at-preserved c =

@@ -1,11 +1,9 @@
-use Rattle.std.proofs.Common.{ℕ, List, sym, ap, ◌∙◌, subst, subst₂}
-use Rattle.board.specs.Attack.{in_check}
+use Rattle.std.proofs.Common.{ℕ, List, sym, subst, subst₂}
 use Rattle.board.specs.Meaning.{Shown}
 use Rattle.laws.specs.Setup.{parts}
 use Rattle.moves.specs.Action.{plain}
 use Rattle.moves.specs.Change.{SameBut}
 use Rattle.moves.proofs.ActionLaws.{promotion_most}
-use Rattle.moves.proofs.ChangeLaws.{same_turned}
 use Rattle.moves.proofs.PlayLaws.{shown_after}
 use Rattle.moves.proofs.trial.leaves_check.Goals as goal
 
@@ -18,19 +16,3 @@ redraw-requires g c =
       shown = subst Shown (sym c.codes_after-next.ensures) made;
       same = subst₂ (λ (x y : List ℕ). SameBut c.changed-squares.result x y) (sym c.requires) (sym c.codes_after-next.ensures) c.changed-squares.ensures;
     }
-
-pub redraw-requires-2 : goal.redraw-requires-2
-redraw-requires-2 g c =
-    let start = c.args.board.now in
-    let setup = c.args.setup.now in
-    let former : Shown setup.codes = subst Shown c.requires (g.met.B.Board.size start, g.met.B.Board.small start) in record {
-      shown = former;
-      same = subst (λ (x : List ℕ). SameBut c.changed-squares.result x setup.codes) (sym (c.redraw.ensures ∙ c.codes_after-next.ensures))
-          (same_turned _ _ _ c.changed-squares.ensures);
-    }
-
-pub returns : goal.returns
-returns g c = record {
-  answer = c.in_check-answer.ensures.answer ∙ ap (in_check c.args.setup.now.side) (c.redraw.ensures ∙ c.codes_after-next.ensures);
-  list = c.redraw-2.ensures;
-}
