@@ -1,5 +1,6 @@
 -- The lowest or the highest occupied square on a ray is the first one on it.
 use Rattle.std.proofs.Common.{◌≡◌, ℕ, zero, suc, ◌<◌, ◌≤◌, Bool, true, false, not, ◌&&◌, ◌||◌, ltb, ◌⊎◌, Some, None, Option, sym, refl, ap, ◌∙◌, inl, inr, ⊎_elim, arith}
+use Rattle.std.specs.Option.{MatchOption}
 use Rattle.std.proofs.lemmas.Bool.Decides.{nat_tests}
 use Rattle.std.proofs.lemmas.Bool.{cases_order, cases_lt, and_parts, and_from, and_right, lt-ltb, le-ltb, both_ways, false≢true}
 use Rattle.board.specs.Below.{some_below, least_below}
@@ -136,7 +137,7 @@ module _ (occupied d t : ℕ) where
             sym (least_found 64 m _ (λ k l. not_passed _ (λ f. let same = only_first m k hm (omega arith) is f in omega arith)) is hm)
 
   -- whether the first is a member of a set
-  pub among_found : (set s : ℕ) → least_below 64 (first_on occupied d t) ≡ Some s → has set s ≡ some_below 64 (λ u. has set u && first_on occupied d t u)
+  among_found : (set s : ℕ) → least_below 64 (first_on occupied d t) ≡ Some s → has set s ≡ some_below 64 (λ u. has set u && first_on occupied d t u)
   among_found set s e =
       let r = least_some 64 s (first_on occupied d t) e in
       same_tests _ _
@@ -145,8 +146,14 @@ module _ (occupied d t : ℕ) where
       let p = and_parts (has set q.0) _ q.2 in
       rw (only_first s q.0 r.0 q.1 r.1 p.1) p.0)
 
-  pub among_none : (set : ℕ) → least_below 64 (first_on occupied d t) ≡ None → some_below 64 (λ u. has set u && first_on occupied d t u) ≡ false
+  among_none : (set : ℕ) → least_below 64 (first_on occupied d t) ≡ None → some_below 64 (λ u. has set u && first_on occupied d t u) ≡ false
   among_none set e = some_none 64 _ (λ k l. and_right (has set k) _ (least_passed 64 (first_on occupied d t) e k l))
+
+  -- the answer of a test of the first one, where there is one
+  pub among_first : (set : ℕ) (r : Bool) (o : Option ℕ) (P : ℕ → Type 0) → o ≡ least_below 64 (first_on occupied d t) → MatchOption o (r ≡ false) P
+      → ((s : ℕ) → P s → r ≡ has set s) → r ≡ some_below 64 (λ u. has set u && first_on occupied d t u)
+  among_first set r None P e h f = h ∙ sym (among_none set (sym e))
+  among_first set r (Some s) P e h f = f s h ∙ among_found set s (sym e)
 
   pub among_off : (set ray : ℕ) → SetOf (lies d t) ray → some_below 64 (λ s. has set s && has ray s) ≡ false
       → some_below 64 (λ u. has set u && first_on occupied d t u) ≡ false

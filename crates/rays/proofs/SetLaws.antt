@@ -1,9 +1,10 @@
 -- The members of the words that the operations on sets give.
 use Rattle.std.proofs.Common.{◌≡◌, ℕ, zero, suc, ◌-◌, ◌*◌, ◌/◌, ◌%◌, ◌^◌, ◌<◌, ◌≤◌, min, max, Bool, true, false, cond, not, ◌&&◌, ◌||◌, eqb, leb, ◌⊎◌, Some, None, Option, sym, refl, ap, ◌∙◌, inl, inr, ⊎_elim, arith}
+use Rattle.std.specs.Option.{SomeIff, IfSome, is_some, unwrap_or}
 use lib.Bits.{bit_and, bit_or, and_le_l}
 use lib.Count.{count_trailing_zeros, count_leading_zeros}
-use Rattle.std.proofs.lemmas.Nat.{one_shl, pow_below, and_mask, shr_split}
-use Rattle.std.proofs.lemmas.Bool.{cases_eq, cases_lt, eq-eqb, ne_eqb, eqb-true, eqb-false, and_left, le-leb, lt-leb, not-true}
+use Rattle.std.proofs.lemmas.Nat.{one_shl, and_mask, shr_split}
+use Rattle.std.proofs.lemmas.Bool.{cases_eq, cases_lt, eq-eqb, ne_eqb, eqb-true, eqb-false, and_left, le-leb, lt-leb, not-true, not-false}
 use Rattle.board.specs.Below.{some_below, least_below}
 use Rattle.board.proofs.BelowLaws.{some_from, some_at, least_found, least_none, same_tests}
 use Rattle.rays.specs.Sets.{bit, has, SetOf, greatest_below}
@@ -87,20 +88,16 @@ and_swap true false = refl
 and_swap false true = refl
 and_swap false false = refl
 
-pub with_in : (w k : ℕ) → k < 64 → SetOf (λ s. eqb s k || has w s) (bit_or w ((1 * 2 ^ k) % 2 ^ 64))
-with_in w k h s l = has_or w _ s ∙ or_swap (has w s) _ ∙ ap (λ x. x || has w s) (has_one k s h)
+pub only_is : (k : ℕ) (o : Option ℕ) → SomeIff o (k < 64) ((1 * 2 ^ k) % 2 ^ 64) → SetOf (λ s. eqb s k) (unwrap_or o 0)
+only_is k None f s l = has_zero s ∙ sym (ne_eqb s k (λ e. f (omega arith)))
+only_is k (Some w) f s l = ap (λ x. has x s) f.1 ∙ has_one k s f.0
 
-pub without_in : (w k : ℕ) → k < 64 → SetOf (λ s. not (eqb s k) && has w s) (bit_and w ((2 ^ 64 - 1) - (1 * 2 ^ k) % 2 ^ 64))
-without_in w k h s l =
-    let small : (1 * 2 ^ k) % 2 ^ 64 < 2 ^ 64 = let e = one_shl k 64 h in let p = pow_below k 64 h in omega arith in
-    has_and w _ s ∙ and_swap (has w s) _ ∙ ap (λ x. x && has w s) (has_not _ s small l ∙ ap not (has_one k s h))
+-- a set is joined to another; it is taken out of another
+pub with_all : (w v : ℕ) (p : ℕ → Bool) → SetOf p v → SetOf (λ s. p s || has w s) (bit_or w v)
+with_all w v p f s l = has_or w v s ∙ or_swap (has w s) _ ∙ ap (λ x. x || has w s) (f s l)
 
--- a square past the board changes nothing
-pub with_past : (w k : ℕ) → 63 < k → SetOf (λ s. eqb s k || has w s) w
-with_past w k h s l = sym (ap (λ x. x || has w s) (ne_eqb s k (λ e. omega arith)))
-
-pub without_past : (w k : ℕ) → 63 < k → SetOf (λ s. not (eqb s k) && has w s) w
-without_past w k h s l = sym (ap (λ x. not x && has w s) (ne_eqb s k (λ e. omega arith)))
+pub without_all : (w v : ℕ) (p : ℕ → Bool) → v < 2 ^ 64 → SetOf p v → SetOf (λ s. not (p s) && has w s) (bit_and w ((2 ^ 64 - 1) - v))
+without_all w v p small f s l = has_and w _ s ∙ and_swap (has w s) _ ∙ ap (λ x. x && has w s) (has_not v s small l ∙ ap not (f s l))
 
 -- the members from k up
 pub upward_in : (w k : ℕ) → w < 2 ^ 64 → SetOf (λ s. leb k s && has w s) ((w / 2 ^ k * 2 ^ k) % 2 ^ 64)
@@ -136,12 +133,19 @@ meet_is a b small = same_tests _ _ there back
         ap not (ne_eqb (bit_and a b) 0 (λ e. omega arith))
 
 -- the lowest member
-pub lowest_some : (w : ℕ) → count_trailing_zeros 64 w < 64 → Some (count_trailing_zeros 64 w) ≡ least_below 64 (has w)
-lowest_some w h =
-    sym (least_found 64 (count_trailing_zeros 64 w) (has w) (λ k l. has_out w k (below_lowest 64 w k l)) (has_in w _ (at_lowest 64 w h)) h)
+ends : (w : ℕ) → w < 2 ^ 64 → (w ≡ 0 → ⊥) → count_trailing_zeros 64 w < 64
+ends w small ne =
+    ⊎_elim (λ (h : count_trailing_zeros 64 w < 64). h)
+    (λ (h : 64 ≤ count_trailing_zeros 64 w).
+    let t = at_highest 64 w (omega arith) small in
+    absurd (let z = below_lowest 64 w t.0 (omega (arith, t.1)) in omega (arith, t.2)))
+    (cases_lt (count_trailing_zeros 64 w) 64)
 
-pub lowest_none : (w : ℕ) → 64 ≤ count_trailing_zeros 64 w → None ≡ least_below 64 (has w)
-lowest_none w h = sym (least_none 64 (has w) (λ k l. has_out w k (below_lowest 64 w k (omega arith))))
+pub lowest_is : (w : ℕ) (o : Option ℕ) → w < 2 ^ 64 → is_some o ≡ not (eqb w 0) → IfSome o (λ n. n ≡ count_trailing_zeros 64 w) → o ≡ least_below 64 (has w)
+lowest_is w None small v f = rw (eqb-true w 0 (not-false _ (sym v))) (sym (least_none 64 (has 0) (λ k h. has_zero k)))
+lowest_is w (Some n) small v f =
+    let h = ends w small (eqb-false w 0 (not-true _ (sym v))) in
+    ap Some f ∙ sym (least_found 64 (count_trailing_zeros 64 w) (has w) (λ k l. has_out w k (below_lowest 64 w k l)) (has_in w _ (at_lowest 64 w h)) h)
 
 -- the greatest that passes
 greatest_none : (n : ℕ) (p : ℕ → Bool) → ((k : ℕ) → k < n → p k ≡ false) → greatest_below n p ≡ None
@@ -187,11 +191,10 @@ greatest_some (suc n) m p e =
     (some_of (p n) n m (greatest_below n p) e)
 
 -- the highest member
-pub highest_some : (w : ℕ) → (w ≡ 0 → ⊥) → w < 2 ^ 64 → Some (63 - count_leading_zeros 64 w) ≡ greatest_below 64 (has w)
-highest_some w ne small =
+pub highest_is : (w : ℕ) (o : Option ℕ) → w < 2 ^ 64 → is_some o ≡ not (eqb w 0) → IfSome o (λ n. n ≡ 63 - count_leading_zeros 64 w) → o ≡ greatest_below 64 (has w)
+highest_is w None small v f = rw (eqb-true w 0 (not-false _ (sym v))) (sym (greatest_none 64 (has 0) (λ k h. has_zero k)))
+highest_is w (Some n) small v f =
+    let ne = eqb-false w 0 (not-true _ (sym v)) in
     let t = at_highest 64 w (omega arith) small in
     let e : 63 - count_leading_zeros 64 w ≡ t.0 = omega (arith, t.1) in
-    ap Some e ∙ sym (greatest_found 64 t.0 (has w) (λ k l h. has_out w k (t.3 k l)) (has_in w _ t.2) (omega (arith, t.1)))
-
-pub highest_none : (w : ℕ) → w ≡ 0 → None ≡ greatest_below 64 (has w)
-highest_none w e = rw e (sym (greatest_none 64 (has 0) (λ k h. has_zero k)))
+    ap Some (f ∙ e) ∙ sym (greatest_found 64 t.0 (has w) (λ k l h. has_out w k (t.3 k l)) (has_in w _ t.2) (omega (arith, t.1)))

@@ -10,26 +10,25 @@ pub fn contains(set: u64, square: u8) -> bool
     square < 64 && (set >> square) & 1 == 1
 }
 
+/// The set of one square; the empty set for a square above 63.
+fn only(square: u8) -> u64
+    ensures { SetOf (λ s. s == square) result }
+{
+    1u64.checked_shl(u32::from(square)).unwrap_or(0)
+}
+
 /// The set with a square added; a square above 63 adds nothing.
 pub fn with(set: u64, square: u8) -> u64
     ensures { SetOf (λ s. (s == square) || has set s) result }
 {
-    if square > 63 {
-        set
-    } else {
-        set | (1 << square)
-    }
+    set | only(square)
 }
 
 /// The set with a square taken out.
 pub fn without(set: u64, square: u8) -> u64
     ensures { SetOf (λ s. not (s == square) && has set s) result }
 {
-    if square > 63 {
-        set
-    } else {
-        set & !(1 << square)
-    }
+    set & !only(square)
 }
 
 /// The members from a square up.
@@ -54,17 +53,12 @@ pub fn meet(one: u64, other: u64) -> bool
 pub fn lowest(set: u64) -> Option<u8>
     ensures { result ≡ least_below 64 (has set) }
 {
-    let n = set.trailing_zeros();
-    if n < 64 { Some(n as u8) } else { None }
+    (set != 0).then(|| set.trailing_zeros() as u8)
 }
 
 /// The highest member.
 pub fn highest(set: u64) -> Option<u8>
     ensures { result ≡ greatest_below 64 (has set) }
 {
-    if set == 0 {
-        None
-    } else {
-        Some((63 - set.leading_zeros()) as u8)
-    }
+    (set != 0).then(|| (63 - set.leading_zeros()) as u8)
 }

@@ -1,13 +1,15 @@
-//! For each square, the squares beyond it in each direction, and those from which a pawn, a knight or a king attacks it.
+//! For each square, the squares beyond it in each direction, and those from which a piece attacks it by a step.
+//!
+//! Directions and squares stay plain numbers: each public function answers for every `u8`, as its line says, and a direction is the row of a table.
 #![tactic(auto)]
 
 ghost use Rattle.std.specs.Prelude.{◌≡◌, ◌+◌, ◌*◌, ◌<◌, ◌&&◌, length, nat_lt};
 ghost use Rattle.board.specs.Below.{some_below, least_below};
-ghost use Rattle.board.specs.Geometry.{knight_step, king_step};
-ghost use Rattle.board.specs.Attack.{pawn_attack};
+ghost use Rattle.board.specs.Attack.{step};
 ghost use Rattle.rays.specs.Sets.{has, SetOf};
 ghost use Rattle.rays.specs.Lines.{lies, first_on, leap, entry_of};
 
+use board::piece::Kind;
 use board::side::Side;
 use tables::{LEAPS, RAYS};
 
@@ -33,7 +35,7 @@ pub fn ray(direction: u8, square: u8) -> u64
 }
 
 /// The squares of a row of leaps to a square; none for a square above 63.
-fn leapers(row: u8, square: u8) -> u64
+fn leaps(row: u8, square: u8) -> u64
     requires { row < 4 }
     ensures { SetOf (λ s. nat_lt square 64 && leap row square s) result }
 {
@@ -43,28 +45,17 @@ fn leapers(row: u8, square: u8) -> u64
     entry(&LEAPS, row, square)
 }
 
-/// The squares from which a pawn of the side attacks a square; none for a square above 63.
-pub fn pawns(by: Side, square: u8) -> u64
-    ensures { SetOf (λ s. nat_lt square 64 && pawn_attack by s square) result }
+/// The squares from which a side's piece of a kind attacks a square by a step; none for a kind that takes none, or a square above 63.
+pub fn leapers(by: Side, kind: Kind, square: u8) -> u64
+    ensures { SetOf (λ s. nat_lt square 64 && step by kind s square) result }
 {
-    match by {
-        Side::White => leapers(0, square),
-        Side::Black => leapers(1, square),
+    match (kind, by) {
+        (Kind::Pawn, Side::White) => leaps(0, square),
+        (Kind::Pawn, Side::Black) => leaps(1, square),
+        (Kind::Knight, _) => leaps(2, square),
+        (Kind::King, _) => leaps(3, square),
+        (Kind::Bishop | Kind::Rook | Kind::Queen, _) => 0,
     }
-}
-
-/// The squares from which a knight attacks a square; none for a square above 63.
-pub fn knights(square: u8) -> u64
-    ensures { SetOf (λ s. nat_lt square 64 && knight_step s square) result }
-{
-    leapers(2, square)
-}
-
-/// The squares from which a king attacks a square; none for a square above 63.
-pub fn kings(square: u8) -> u64
-    ensures { SetOf (λ s. nat_lt square 64 && king_step s square) result }
-{
-    leapers(3, square)
 }
 
 /// The first occupied square beyond a square in a direction.
@@ -83,11 +74,6 @@ pub fn blocker(direction: u8, square: u8, occupied: u64) -> Option<u8>
 pub fn first_among(direction: u8, square: u8, occupied: u64, set: u64) -> bool
     ensures { result ≡ some_below 64 (λ s. has set s && first_on occupied direction square s) }
 {
-    if !bits::meet(set, ray(direction, square)) {
-        return false;
-    }
-    match blocker(direction, square, occupied) {
-        Some(s) => bits::contains(set, s),
-        None => false,
-    }
+    bits::meet(set, ray(direction, square))
+        && blocker(direction, square, occupied).is_some_and(|first| bits::contains(set, first))
 }

@@ -1,8 +1,8 @@
-use Rattle.rays.proofs.SetLaws.{highest_some, highest_none}
+use Rattle.std.proofs.Common.{rules}
+use Rattle.std.proofs.lemmas.Option.{IfSome_then}
+use Rattle.rays.proofs.SetLaws.{highest_is}
 use Rattle.rays.proofs.bits.highest.Goals as goal
 
-pub returns-then-set-eq0 : goal.returns-then-set-eq0
-returns-then-set-eq0 c = highest_none c.args.set c.if-set-eq0.true
-
-pub returns-else-set-eq0 : goal.returns-else-set-eq0
-returns-else-set-eq0 c = highest_some c.args.set c.if-set-eq0.false c.ranges.set.fits
+pub returns : goal.returns
+returns c =
+    highest_is c.args.set c.then.result c.ranges.set.fits c.then.ensures.variant (IfSome_then c.then.result c.then.ensures.some (λ n k. search rules))

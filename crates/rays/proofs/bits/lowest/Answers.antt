@@ -1,8 +1,8 @@
-use Rattle.rays.proofs.SetLaws.{lowest_some, lowest_none}
+use Rattle.std.proofs.Common.{rules}
+use Rattle.std.proofs.lemmas.Option.{IfSome_then}
+use Rattle.rays.proofs.SetLaws.{lowest_is}
 use Rattle.rays.proofs.bits.lowest.Goals as goal
 
-pub returns-then-n-lt64 : goal.returns-then-n-lt64
-returns-then-n-lt64 c = lowest_some c.args.set c.if-n-lt64.true
-
-pub returns-else-n-lt64 : goal.returns-else-n-lt64
-returns-else-n-lt64 c = lowest_none c.args.set c.if-n-lt64.false
+pub returns : goal.returns
+returns c =
+    lowest_is c.args.set c.then.result c.ranges.set.fits c.then.ensures.variant (IfSome_then c.then.result c.then.ensures.some (λ n k. search rules))
