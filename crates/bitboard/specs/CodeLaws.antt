@@ -1,5 +1,9 @@
 -- The codes that twelve words stand for, and what a write does to them.
-use Rattle.std.specs.Prelude.{◌≡◌, ℕ, zero, suc, ◌+◌, ◌<◌, ◌≤◌, Bool, true, false, not, ◌&&◌, ◌||◌, ◌⊎◌, List, length, replicate, Some, None, Option, ◌==◌, ◌≢◌, bit_or, nat_eq, nat_le, slice_index, slice_set}
+use Rattle.std.specs.Prelude.{◌≡◌, ℕ, zero, suc, ◌+◌, ◌<◌, ◌≤◌, Bool, true, false, not, ◌&&◌, ◌||◌, ◌⊎◌, List, length, replicate, Some, None, Option, ◌==◌, ◌≢◌, bit_or, nat_eq, nat_le, slice_index, slice_set, fold, [], ◌∷◌}
+use Rattle.std.specs.List.{list_any, AllWithin, HoldsAt}
+use Rattle.std.specs.Option.{MatchOption}
+use Rattle.std.proofs.lemmas.List.Folds.{list_any_at, list_any_none}
+use Rattle.std.proofs.lemmas.List.Elements.{All-from_get_or}
 use Rattle.std.proofs.Math.Path.{refl, ap}
 use Rattle.std.proofs.Common.{sym, subst, ◌∙◌, ⊎_elim, arith}
 use Rattle.std.proofs.Math.Logic.{inl, inr}
@@ -25,6 +29,14 @@ module _ (words : List ℕ) (s : ℕ) where
   pub code_none : ((i : ℕ) → i < 12 → in_word words i s ≡ false) → code_at words s ≡ 0
   unfolding code_at
   code_none f = ap code_of (least_none 12 (λ k. in_word words k s) f)
+
+  -- the answer of a search for the word that has the square
+  pub code_found : (r : Option ℕ) (x : ℕ) (P : ℕ → Type 0) → length words ≡ 12
+      → MatchOption r (AllWithin (λ w. has w s ≡ false) words 0 (length words))
+      (λ i. (i < length words) × HoldsAt (λ w. has w s ≡ true) words i × AllWithin (λ w. has w s ≡ false) words 0 i)
+      → MatchOption r (x ≡ 0) P → ((i : ℕ) → P i → x ≡ suc i) → x ≡ code_at words s
+  code_found None x P l none e f = e ∙ sym (code_none (λ i h. none i 0 (omega arith) (omega arith)))
+  code_found (Some i) x P l first e f = f i e ∙ sym (code_first i (λ k h. first.2 k 0 (omega arith) h) (first.1 0) (omega arith))
 
   abbrev NoWord : Type 0
   NoWord = (code_at words s ≡ 0) × ((i : ℕ) → i < 12 → in_word words i s ≡ false)
@@ -144,21 +156,28 @@ module _ (words mid after : List ℕ) (square old c : ℕ) (hs : square < 64) (h
       ∙ sym (get_or-set_other (codes_of words) square s c 0 d ∙ codes_at words s hs'))
       (cases_eq s square))
 
+or_none : (a : Bool) → a ≡ (a || false)
+or_none true = refl
+or_none false = refl
+
+or_regroup : (a b c : Bool) → ((a || b) || c) ≡ (a || (b || c))
+or_regroup true b c = refl
+or_regroup false b c = refl
+
 -- the union of the first words
 abbrev pub Covers : List ℕ → ℕ → ℕ → Type 0
 Covers words n all =
     (s : ℕ) → ((k : ℕ) → k < n → in_word words k s ≡ true → has all s ≡ true) × (((k : ℕ) → k < n → in_word words k s ≡ false) → has all s ≡ false)
 
-pub covers_none : (words : List ℕ) → Covers words 0 0
-covers_none words s = (λ k l. absurd (omega arith), λ _. has_zero s)
+has_fold : (ws : List ℕ) (a s : ℕ) → has (fold bit_or a ws) s ≡ (has a s || list_any (λ w. has w s) ws)
+has_fold [] a s = or_none (has a s)
+has_fold (w ∷ ws) a s = has_fold ws (bit_or a w) s ∙ ap (λ b. b || list_any (λ w. has w s) ws) (has_or a w s) ∙ or_regroup (has a s) (has w s) _
 
-pub covers_more : (words : List ℕ) (n all : ℕ) → Covers words n all → Covers words (n + 1) (bit_or all (slice_index words n))
-covers_more words n all c s =
-    let e = has_or all (slice_index words n) s in (
-      λ k l h. e ∙ ⊎_elim
-          (λ (q : k ≡ n). or_right (has all s) _ (rw q at h))
-          (λ (d : k ≡ n → ⊥). or_left _ (in_word words n s) ((c s).0 k (omega arith) h)) (cases_eq k n),
-      λ f. e ∙ ap (λ b. b || in_word words n s) ((c s).1 (λ k l. f k (omega arith))) ∙ f n (omega arith),
+pub covers_fold : (words : List ℕ) → length words ≡ 12 → Covers words 12 (fold bit_or 0 words)
+covers_fold words l s =
+    let e : has (fold bit_or 0 words) s ≡ list_any (λ w. has w s) words = has_fold words 0 s ∙ ap (λ b. b || list_any (λ w. has w s) words) (has_zero s) in (
+      λ k h t. e ∙ list_any_at (λ w. has w s) words k 0 (omega arith) t,
+      λ f. e ∙ list_any_none (λ w. has w s) words (All-from_get_or (λ w. has w s ≡ false) words 0 (λ k h. f k (omega arith))),
     )
 
 pub covers_all : (words : List ℕ) (all : ℕ) → Covers words 12 all → SetOf (λ s. not (slice_index (codes_of words) s == 0)) all

@@ -8,6 +8,7 @@ ghost use Rattle.bitboard.specs.CodeLaws.{length_codes, codes_small};
 
 use board::Board;
 use board::side::Side;
+use board::square::Square;
 use rays::bits;
 
 mod attack;
@@ -42,25 +43,21 @@ impl Board for Bitboard {
     }
 
     fn look(&self, square: u8) -> u8 {
-        if square < 64 {
-            words::holder(&self.words, square)
-        } else {
-            255
-        }
+        Square::new(square).map_or(255, |square| self.holder(square))
     }
 
     fn put(&mut self, square: u8, code: u8) -> u8 {
-        if square > 63 || code > 12 {
-            return 255;
+        match Square::new(square) {
+            Some(square) if code <= 12 => self.write(square, code),
+            _ => 255,
         }
-        words::write(&mut self.words, square, code)
     }
 
     fn next(&self, from: u8, code: u8) -> Option<u8> {
-        bits::lowest(bits::upward(words::squares(&self.words, code), from))
+        bits::lowest(bits::upward(self.squares(code), from))
     }
 
     fn attacked(&self, by: Side, square: u8) -> bool {
-        square < 64 && attack::attacked(&self.words, by, square)
+        Square::new(square).is_some_and(|square| self.attacks(by, square))
     }
 }

@@ -1,80 +1,73 @@
 //! Twelve words as a board: what they say of a square and of a code, and a write.
-ghost use Rattle.std.specs.Prelude.{◌≡◌, ◌<◌, ◌≤◌, not, set as put_at, ◌==◌, nat_eq, slice_index};
+ghost use Rattle.std.specs.Prelude.{◌≡◌, ◌≤◌, not, set as put_at, ◌==◌, nat_eq, slice_index};
+ghost use Rattle.board.specs.Below.{least_below};
 ghost use Rattle.rays.specs.Sets.{SetOf};
-ghost use Rattle.bitboard.specs.Codes.{code_at, codes_of, Apart, Lifted, Placed};
+ghost use Rattle.bitboard.specs.Codes.{in_word, code_at, codes_of, Lifted, Placed};
 
+use crate::Bitboard;
+use board::square::Square;
 use rays::bits;
 
-/// The code on a square: that of the word that has it, or 0.
-pub(crate) fn holder(words: &[u64; 12], square: u8) -> u8
-    ensures { result ≡ code_at words.now square }
-{
-    for (i, word) in words.iter().enumerate() {
-        if bits::contains(*word, square) {
-            return i as u8 + 1;
+impl Bitboard {
+    /// The code on a square: that of the word that has it, or 0.
+    pub(crate) fn holder(&self, square: Square) -> u8
+        ensures { result ≡ code_at self.now.words square.number }
+    {
+        self.words
+            .iter()
+            .position(|word| bits::contains(*word, square.number()))
+            .map_or(0, |place| place as u8 + 1)
+    }
+
+    /// The squares that hold a piece.
+    pub(crate) fn occupied(&self) -> u64
+        ensures { SetOf (λ s. not (slice_index (codes_of self.now.words) s == 0)) result }
+    {
+        self.words.iter().fold(0, |all, word| all | *word)
+    }
+
+    /// The squares that hold a code.
+    pub(crate) fn squares(&self, code: u8) -> u64
+        ensures { SetOf (λ s. nat_eq (slice_index (codes_of self.now.words) s) code) result }
+    {
+        match code {
+            0 => !self.occupied(),
+            1..=12 => self.words[usize::from(code) - 1],
+            _ => 0,
         }
     }
-    0
-}
 
-/// The squares that hold a piece.
-pub(crate) fn occupied(words: &[u64; 12]) -> u64
-    ensures { SetOf (λ s. not (slice_index (codes_of words.now) s == 0)) result }
-{
-    let mut all = 0;
-    for word in words {
-        all |= *word;
-    }
-    all
-}
-
-/// The squares that hold a code.
-pub(crate) fn squares(words: &[u64; 12], code: u8) -> u64
-    requires { Apart words.now }
-    ensures { SetOf (λ s. nat_eq (slice_index (codes_of words.now) s) code) result }
-{
-    if code == 0 {
-        !occupied(words)
-    } else if code > 12 {
-        0
-    } else {
-        words[code as usize - 1]
+    /// Writes a code on a square and answers the former one.
+    pub(crate) fn write(&mut self, square: Square, code: u8) -> u8
+        requires { code ≤ 12 }
+        ensures former { result ≡ slice_index (codes_of self.old.words) square.number }
+        ensures list { codes_of self.new.words ≡ put_at (codes_of self.old.words) square.number code }
+    {
+        let former = self.holder(square);
+        lift(&mut self.words, former, square);
+        place(&mut self.words, code, square);
+        former
     }
 }
 
 /// Takes a square out of the word of a code.
-fn lift(words: &mut [u64; 12], code: u8, square: u8)
+fn lift(words: &mut [u64; 12], code: u8, square: Square)
     requires { code ≤ 12 }
-    ensures { Lifted code square words.old words.new }
+    ensures { Lifted code square.number words.old words.new }
 {
     if code > 0 {
-        let i = code as usize - 1;
-        words[i] = bits::without(words[i], square);
+        let place = usize::from(code) - 1;
+        words[place] = bits::without(words[place], square.number());
     }
 }
 
 /// Puts a square into the word of a code.
-fn place(words: &mut [u64; 12], code: u8, square: u8)
+fn place(words: &mut [u64; 12], code: u8, square: Square)
     requires { code ≤ 12 }
-    ensures { Placed code square words.old words.new }
+    ensures { Placed code square.number words.old words.new }
 {
     if code > 0 {
-        let i = code as usize - 1;
-        words[i] = bits::with(words[i], square);
+        let place = usize::from(code) - 1;
+        words[place] = bits::with(words[place], square.number());
     }
-}
-
-/// Writes a code on a square and answers the former one.
-pub(crate) fn write(words: &mut [u64; 12], square: u8, code: u8) -> u8
-    requires within { square < 64 }
-    requires small { code ≤ 12 }
-    requires apart { Apart words.old }
-    ensures former { result ≡ slice_index (codes_of words.old) square }
-    ensures list { codes_of words.new ≡ put_at (codes_of words.old) square code }
-    ensures apart { Apart words.new }
-{
-    let old = holder(words, square);
-    lift(words, old, square);
-    place(words, code, square);
-    old
 }

@@ -1,9 +1,11 @@
-use Rattle.std.proofs.Common.{sym, ◌∙◌}
-use Rattle.std.proofs.lemmas.Bool.{cond-true, lt-ltb}
+use Rattle.std.proofs.Common.{◌≡◌, get_or, sym, ◌∙◌, rules}
+use Rattle.bitboard.specs.Codes.{code_at, codes_of}
 use Rattle.bitboard.specs.CodeLaws.{codes_at}
+use Rattle.bitboard.proofs.SquareLaws.{by_square}
 use Rattle.bitboard.proofs.BitboardBoard.look.Goals as goal
 
-pub returns-then-square-lt64 : goal.returns-then-square-lt64
-returns-then-square-lt64 c =
-    let h = c.if-square-lt64.true in
-    c.holder.ensures ∙ sym (cond-true _ _ _ (lt-ltb _ _ h) ∙ codes_at c.args.self.now.words c.args.square h)
+pub returns : goal.returns
+returns c =
+    let words = c.args.self.now.words in
+    by_square c.args.square c.new.result c.map_or.result 255 (λ n. get_or (codes_of words) n 0) _ c.new.ensures c.map_or.ensures
+    (λ s k. let e : c.map_or.result ≡ code_at words s.number = search rules in e ∙ sym (codes_at words s.number s.on_board))
