@@ -1,5 +1,5 @@
 -- The codes that twelve words stand for, and what a write does to them.
-use Rattle.std.specs.Prelude.{◌≡◌, ℕ, zero, suc, ◌+◌, ◌<◌, ◌≤◌, Bool, true, false, not, ◌&&◌, ◌||◌, ◌⊎◌, List, length, replicate, Some, None, Option, ◌==◌, ◌≢◌, bit_or, nat_eq, nat_le, slice_index, slice_set, fold, [], ◌∷◌}
+use Rattle.std.specs.Prelude.{◌≡◌, ℕ, zero, suc, ◌<◌, ◌≤◌, Bool, true, false, not, ◌&&◌, ◌||◌, ◌⊎◌, List, length, replicate, Some, None, Option, ◌==◌, ◌≢◌, bit_or, nat_eq, nat_le, slice_index, slice_set, fold, [], ◌∷◌}
 use Rattle.std.specs.List.{list_any, AllWithin, HoldsAt}
 use Rattle.std.specs.Option.{MatchOption}
 use Rattle.std.proofs.lemmas.List.Folds.{list_any_at, list_any_none}
@@ -9,7 +9,7 @@ use Rattle.std.proofs.Common.{sym, subst, ◌∙◌, ⊎_elim, arith}
 use Rattle.std.proofs.Math.Logic.{inl, inr}
 use Rattle.std.proofs.lemmas.List.FromFn.{get_or-map-range_with_len, length-map-range_with_len}
 use Rattle.std.proofs.lemmas.List.{ext_get_or, length-set, get_or-set_same, get_or-set_other, get_or-replicate, get_or_past}
-use Rattle.std.proofs.lemmas.Bool.{cases_lt, cases_eq, cases_order, eq-eqb, ne_eqb, eqb-true, both_ways, false≢true, or_left, or_right}
+use Rattle.std.proofs.lemmas.Bool.{cases_lt, cases_eq, cases_order, eq-eqb, ne_eqb, eqb-true, both_ways, false≢true}
 use Rattle.board.specs.Below.{least_below}
 use Rattle.board.specs.Meaning.{empty_board, next_holding}
 use Rattle.board.proofs.BelowLaws.{least_found, least_none, least_some, least_passed, least_same, same_tests}

@@ -1,8 +1,7 @@
 //! Twelve words as a board: what they say of a square and of a code, and a write.
 ghost use Rattle.std.specs.Prelude.{◌≡◌, ◌≤◌, not, set as put_at, ◌==◌, nat_eq, slice_index};
-ghost use Rattle.board.specs.Below.{least_below};
 ghost use Rattle.rays.specs.Sets.{SetOf};
-ghost use Rattle.bitboard.specs.Codes.{in_word, code_at, codes_of, Lifted, Placed};
+ghost use Rattle.bitboard.specs.Codes.{code_at, codes_of, Lifted, Placed};
 
 use crate::Bitboard;
 use board::square::Square;
@@ -50,13 +49,14 @@ impl Bitboard {
     }
 }
 
+// `lift` and `place` stay two functions: one that took the step as a closure would need a clause on the closure and lemmas on it, for one line saved.
+
 /// Takes a square out of the word of a code.
 fn lift(words: &mut [u64; 12], code: u8, square: Square)
     requires { code ≤ 12 }
     ensures { Lifted code square.number words.old words.new }
 {
-    if code > 0 {
-        let place = usize::from(code) - 1;
+    if let Some(place) = usize::from(code).checked_sub(1) {
         words[place] = bits::without(words[place], square.number());
     }
 }
@@ -66,8 +66,7 @@ fn place(words: &mut [u64; 12], code: u8, square: Square)
     requires { code ≤ 12 }
     ensures { Placed code square.number words.old words.new }
 {
-    if code > 0 {
-        let place = usize::from(code) - 1;
+    if let Some(place) = usize::from(code).checked_sub(1) {
         words[place] = bits::with(words[place], square.number());
     }
 }

@@ -1,9 +1,8 @@
-use Rattle.std.proofs.Common.{◌≡◌, bit_or, length, rules, subst}
+use Rattle.std.proofs.Common.{◌≡◌, bit_or, length, rules}
 use borrow.Author.Tests.{tests}
 use Rattle.std.proofs.lemmas.Iterator.{YieldsList-from_slice}
 use Rattle.std.proofs.lemmas.Iterator.Consumers.{fold_from_yields_List}
-use Rattle.rays.specs.Sets.{SetOf}
-use Rattle.bitboard.specs.CodeLaws.{Covers, covers_fold, covers_all}
+use Rattle.bitboard.specs.CodeLaws.{covers_fold, covers_all}
 use Rattle.bitboard.proofs.Bitboard.occupied.Goals as goal
 
 pub returns : goal.returns

@@ -1,4 +1,4 @@
-use Rattle.std.proofs.Common.{sym, ◌∙◌, inl, inr, arith}
+use Rattle.std.proofs.Common.{sym, ◌∙◌, inl, inr}
 use Rattle.board.proofs.PutLaws.{put_done, put_refused}
 use Rattle.bitboard.specs.Codes.{codes_of}
 use Rattle.bitboard.proofs.SquareLaws.{is_square, no_square}
