@@ -1,3 +1,4 @@
 pub mod Walk
-pub mod Leaps
+pub mod LeapLaws
 pub mod Lines
+pub mod SquareLaws

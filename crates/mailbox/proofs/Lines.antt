@@ -95,11 +95,11 @@ module _ (side : Side) (cells : List ℕ) (border : Bordered cells) (d t k at : 
       (read_cell cells border x hx)
 
   -- the walk goes on over an empty cell, and ends at the first that is not, or at the furthest
-  pub walk_more : get_or cells (at + get_or steps d 0 - 11) 0 ≡ 0 → Walked (codes_of cells) d t (k + 1) (at + get_or steps d 0 - 11)
-  walk_more z = rw w.here (more (rw w.here at z))
+  pub walk_more : (by : ℕ) → by ≡ get_or steps d 0 → get_or cells (at + by - 11) 0 ≡ 0 → Walked (codes_of cells) d t (k + 1) (at + by - 11)
+  walk_more by e z = rw (e, w.here) (more (rw (e, w.here) at z))
 
-  pub walk_first : (get_or cells (at + get_or steps d 0 - 11) 0 ≡ 0 → ⊥) → slides side d (get_or cells (at + get_or steps d 0 - 11) 0) ≡ line_hit side (codes_of cells) d t
-  walk_first full = rw w.here (first (rw w.here at full))
+  pub walk_first : (by : ℕ) → by ≡ get_or steps d 0 → (get_or cells (at + by - 11) 0 ≡ 0 → ⊥) → slides side d (get_or cells (at + by - 11) 0) ≡ line_hit side (codes_of cells) d t
+  walk_first by e full = rw (e, w.here) (first (rw (e, w.here) at full))
 
   pub walk_end : 7 ≤ k → line_hit side (codes_of cells) d t ≡ false
   walk_end h =

@@ -3,6 +3,8 @@ use Rattle.std.specs.Prelude.{◌≡◌, ℕ, ◌+◌, ◌-◌, ◌*◌, ◌/◌
 use Rattle.std.specs.List.{range_with_len}
 use Rattle.board.specs.declared.side.Side.{Side}
 use Rattle.board.specs.declared.side.Side.TheVariants.{White, Black}
+use Rattle.board.specs.declared.piece.Kind.{Kind}
+use Rattle.board.specs.declared.piece.Kind.TheVariants.{Pawn, Knight, Bishop, Rook, Queen, King}
 use Rattle.board.specs.Below.{some_below}
 
 -- the cell of a square
@@ -41,6 +43,15 @@ king_leaps = 31 ∷ 32 ∷ 22 ∷ 12 ∷ 11 ∷ 10 ∷ 20 ∷ 30 ∷ []
 abbrev pub pawn_leaps : Side → List ℕ
 pawn_leaps White = 10 ∷ 12 ∷ []
 pawn_leaps Black = 30 ∷ 32 ∷ []
+
+-- the leaps to a side's piece of a kind; a line piece takes none
+abbrev pub leaps_of : Side → Kind → List ℕ
+leaps_of side Pawn = pawn_leaps side
+leaps_of side Knight = knight_leaps
+leaps_of side Bishop = []
+leaps_of side Rook = []
+leaps_of side Queen = []
+leaps_of side King = king_leaps
 
 -- a code stands at one of the leaps from t
 unfoldable pub leap_hit : List ℕ → ℕ → ℕ → List ℕ → Bool

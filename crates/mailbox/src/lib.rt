@@ -2,17 +2,16 @@
 //! The border stops each walk and each leap that leaves the board.
 #![tactic(auto)]
 
-ghost use Rattle.std.specs.Prelude.{◌≡◌, ℕ, ◌<◌, ◌≤◌, slice_index};
-ghost use Rattle.board.specs.declared.piece.Kind.TheVariants.{Pawn, Knight, King};
-ghost use Rattle.board.specs.Geometry.{knight_step, king_step};
-ghost use Rattle.board.specs.Attack.{slides, pawn_attack};
+ghost use Rattle.std.specs.Prelude.{◌≡◌, ℕ, ◌<◌, ◌≤◌, All};
+ghost use Rattle.board.specs.Attack.{step, slides, attacks};
 ghost use Rattle.board.specs.Hits.{step_hit, line_hit, lines_hit};
 ghost use Rattle.board.specs.Meaning.{empty_board};
-ghost use Rattle.mailbox.specs.Cells.{cell_of, at_square, codes_of, Bordered, Coded, leap_hit};
+ghost use Rattle.mailbox.specs.Cells.{cell_of, at_square, codes_of, Bordered, Coded, leaps_of, leap_hit};
 ghost use Rattle.mailbox.specs.CellLists.{length_codes, codes_small};
 
 use board::piece::Kind;
 use board::side::Side;
+use board::square::Square;
 use board::{Board, piece};
 
 /// What a cell of the border holds.
@@ -39,11 +38,12 @@ pub struct Mailbox {
 }
 
 /// The cell of a square.
-fn cell(square: u8) -> usize
-    requires { square < 64 }
-    ensures { (result ≡ cell_of square) × ((21 ≤ result) × (result ≤ 98)) }
+fn cell(square: Square) -> usize
+    ensures place { result ≡ cell_of square.number }
+    ensures low { 21 ≤ result }
+    ensures high { result ≤ 98 }
 {
-    21 + 10 * (square / 8) as usize + (square % 8) as usize
+    21 + 10 * usize::from(square.rank()) + usize::from(square.file())
 }
 
 /// The cells of the empty board: all filled with the border mark, and then the squares cleared.
@@ -52,17 +52,37 @@ fn cleared() -> [u8; 120]
     ensures zero { (s : ℕ) → s < 64 → at_square result s ≡ 0 }
 {
     let mut cells = [BORDER; 120];
-    for s in 0..64u8 {
-        cells[cell(s)] = 0;
+    for number in 0..64 {
+        if let Some(square) = Square::new(number) {
+            cells[cell(square)] = 0;
+        }
     }
     cells
 }
 
-/// Whether a code is a piece of the side that moves along a direction.
-fn line_piece(by: Side, d: usize, found: u8) -> bool
-    ensures { result ≡ slides by d found }
+/// The leaps from a square to where a side's piece of a kind that attacks it by a step would stand; none for a kind that takes none.
+fn leaps(by: Side, kind: Kind) -> &'static [u8]
+    ensures leaps { result.now ≡ leaps_of by kind }
+    ensures small { All (λ leap. leap ≤ 42) result.now }
 {
-    let kind = if d % 2 == 0 { Kind::Rook } else { Kind::Bishop };
+    match (kind, by) {
+        (Kind::Pawn, Side::White) => &WHITE_PAWN,
+        (Kind::Pawn, Side::Black) => &BLACK_PAWN,
+        (Kind::Knight, _) => &KNIGHT,
+        (Kind::King, _) => &KING,
+        (Kind::Bishop | Kind::Rook | Kind::Queen, _) => &[],
+    }
+}
+
+/// Whether a code is a piece of the side that moves along a direction.
+fn line_piece(by: Side, direction: usize, found: u8) -> bool
+    ensures { result ≡ slides by direction found }
+{
+    let kind = if direction % 2 == 0 {
+        Kind::Rook
+    } else {
+        Kind::Bishop
+    };
     found == piece::code(by, Kind::Queen) || found == piece::code(by, kind)
 }
 
@@ -75,75 +95,56 @@ impl Mailbox {
     }
 
     /// Whether a code stands at one of the leaps from a square.
-    fn leaper(&self, square: u8, found: u8, leaps: &[u8]) -> bool
-        requires { (square < 64) × (((i : ℕ) → slice_index leaps.now i ≤ 42)) }
-        ensures { result ≡ leap_hit self.now.cells square found leaps.now }
+    fn leaper(&self, square: Square, found: u8, leaps: &[u8]) -> bool
+        requires { All (λ leap. leap ≤ 42) leaps.now }
+        ensures { result ≡ leap_hit self.now.cells square.number found leaps.now }
     {
         let from = cell(square);
-        for leap in leaps {
-            if self.cells[from + *leap as usize - 21] == found {
-                return true;
-            }
-        }
-        false
+        leaps
+            .iter()
+            .any(|leap| self.cells[from + usize::from(*leap) - 21] == found)
     }
 
-    /// Whether a pawn of the side attacks a square.
-    fn pawn(&self, by: Side, square: u8) -> bool
-        requires { square < 64 }
-        ensures { result ≡ step_hit by (codes_of self.now.cells) Pawn (pawn_attack by) square }
+    /// Whether a piece of the side and of a kind attacks a square by a step.
+    fn steps(&self, by: Side, kind: Kind, square: Square) -> bool
+        ensures { result ≡ step_hit by (codes_of self.now.cells) kind (step by kind) square.number }
     {
-        let found = piece::code(by, Kind::Pawn);
-        match by {
-            Side::White => self.leaper(square, found, &WHITE_PAWN),
-            Side::Black => self.leaper(square, found, &BLACK_PAWN),
-        }
-    }
-
-    /// Whether a knight of the side attacks a square.
-    fn knight(&self, by: Side, square: u8) -> bool
-        requires { square < 64 }
-        ensures { result ≡ step_hit by (codes_of self.now.cells) Knight knight_step square }
-    {
-        self.leaper(square, piece::code(by, Kind::Knight), &KNIGHT)
-    }
-
-    /// Whether a king of the side attacks a square.
-    fn king(&self, by: Side, square: u8) -> bool
-        requires { square < 64 }
-        ensures { result ≡ step_hit by (codes_of self.now.cells) King king_step square }
-    {
-        self.leaper(square, piece::code(by, Kind::King), &KING)
+        self.leaper(square, piece::code(by, kind), leaps(by, kind))
     }
 
     /// Whether a line piece of the side attacks a square from one direction: it is the first piece that a walk from the square meets.
-    fn line(&self, by: Side, d: usize, square: u8) -> bool
-        requires { (square < 64) × (d < 8) }
-        ensures { result ≡ line_hit by (codes_of self.now.cells) d square }
+    fn line(&self, by: Side, direction: usize, square: Square) -> bool
+        requires { direction < 8 }
+        ensures { result ≡ line_hit by (codes_of self.now.cells) direction square.number }
     {
-        let step = STEPS[d] as usize;
+        let step = usize::from(STEPS[direction]);
         let mut at = cell(square);
-        for k in 0..7usize {
+        // A loop: a chain would index a cell for each of the seven steps, and only the walk knows that it stops at the border.
+        for _ in 0..7usize {
             at = at + step - 11;
             let found = self.cells[at];
             if found != 0 {
-                return line_piece(by, d, found);
+                return line_piece(by, direction, found);
             }
         }
         false
     }
 
     /// Whether a line piece of the side attacks a square.
-    fn lines(&self, by: Side, square: u8) -> bool
-        requires { square < 64 }
-        ensures { result ≡ lines_hit by (codes_of self.now.cells) square }
+    fn lines(&self, by: Side, square: Square) -> bool
+        ensures { result ≡ lines_hit by (codes_of self.now.cells) square.number }
     {
-        for d in 0..8usize {
-            if self.line(by, d, square) {
-                return true;
-            }
-        }
-        false
+        (0..8).any(|direction| self.line(by, direction, square))
+    }
+
+    /// Whether a side attacks a square.
+    fn attacks(&self, by: Side, square: Square) -> bool
+        ensures { result ≡ attacks by (codes_of self.now.cells) square.number }
+    {
+        self.steps(by, Kind::Pawn, square)
+            || self.steps(by, Kind::Knight, square)
+            || self.steps(by, Kind::King, square)
+            || self.lines(by, square)
     }
 }
 
@@ -159,41 +160,28 @@ impl Board for Mailbox {
     }
 
     fn look(&self, square: u8) -> u8 {
-        if square < 64 {
-            self.cells[cell(square)]
-        } else {
-            255
-        }
+        Square::new(square).map_or(255, |square| self.cells[cell(square)])
     }
 
     fn put(&mut self, square: u8, code: u8) -> u8 {
-        if square > 63 || code > 12 {
-            return 255;
+        match Square::new(square) {
+            Some(square) if code <= 12 => {
+                let at = cell(square);
+                let mut cells = self.cells;
+                let former = cells[at];
+                cells[at] = code;
+                self.cells = cells;
+                former
+            }
+            _ => 255,
         }
-        let at = cell(square);
-        let mut cells = self.cells;
-        let old = cells[at];
-        cells[at] = code;
-        self.cells = cells;
-        old
     }
 
     fn next(&self, from: u8, code: u8) -> Option<u8> {
-        for s in from..64 {
-            if self.cells[cell(s)] == code {
-                return Some(s);
-            }
-        }
-        None
+        (from..64).find(|&square| self.look(square) == code)
     }
 
     fn attacked(&self, by: Side, square: u8) -> bool {
-        if square > 63 {
-            return false;
-        }
-        self.pawn(by, square)
-            || self.knight(by, square)
-            || self.king(by, square)
-            || self.lines(by, square)
+        Square::new(square).is_some_and(|square| self.attacks(by, square))
     }
 }

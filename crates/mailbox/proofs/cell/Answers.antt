@@ -1,7 +1,7 @@
-use Rattle.std.proofs.Common.{refl, arith}
+use Rattle.std.proofs.Common.{arith}
 use Rattle.mailbox.specs.Cells.{cell_of}
 use Rattle.mailbox.proofs.cell.Goals as goal
 
-pub returns : goal.returns
+pub returns-clause-place : goal.returns-clause-place
 unfolding cell_of
-returns c = (refl, (omega arith, omega arith))
+returns-clause-place c = omega arith

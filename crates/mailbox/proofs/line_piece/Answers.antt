@@ -5,7 +5,7 @@ use Rattle.board.specs.declared.piece.Kind.TheVariants.{Bishop, Rook, Queen}
 use Rattle.board.specs.Piece.{code}
 use Rattle.board.specs.Attack.{slides}
 use Rattle.mailbox.proofs.line_piece.Goals as goal
-use Rattle.mailbox.proofs.line_piece.Goals.{then-d-eq0, else-d-eq0}
+use Rattle.mailbox.proofs.line_piece.Goals.{then-direction-eq0, else-direction-eq0}
 
 pub returns-then-found-code : goal.returns-then-found-code
 unfolding slides
@@ -20,9 +20,9 @@ other_piece side d found q r n e k = rw k (sym (ap (λ (b : Bool). b || eqb foun
 
 pub returns-else-found-code : goal.returns-else-found-code
 returns-else-found-code c =
-    let is : c.code-else-found-code.result ≡ cond (eqb (c.args.d % 2) 0) (code c.args.by Rook) (code c.args.by Bishop) = c.code-else-found-code.ensures
-    ∙ elim c.if-d-eq0.branch [
-      | then-d-eq0 w ↦ ap (code c.args.by) w.kind-is ∙ sym (cond-true _ _ _ (eq-eqb _ _ w.if-d-eq0.true))
-      | else-d-eq0 w ↦ ap (code c.args.by) w.kind-is ∙ sym (cond-false _ _ _ (ne_eqb _ _ w.if-d-eq0.false))
+    let is : c.code-else-found-code.result ≡ cond (eqb (c.args.direction % 2) 0) (code c.args.by Rook) (code c.args.by Bishop) = c.code-else-found-code.ensures
+    ∙ elim c.if-direction-eq0.branch [
+      | then-direction-eq0 w ↦ ap (code c.args.by) w.kind-is ∙ sym (cond-true _ _ _ (eq-eqb _ _ w.if-direction-eq0.true))
+      | else-direction-eq0 w ↦ ap (code c.args.by) w.kind-is ∙ sym (cond-false _ _ _ (ne_eqb _ _ w.if-direction-eq0.false))
     ] in
-    other_piece c.args.by c.args.d c.args.found c.code.result _ c.if-found-code.false c.code.ensures is
+    other_piece c.args.by c.args.direction c.args.found c.code.result _ c.if-found-code.false c.code.ensures is

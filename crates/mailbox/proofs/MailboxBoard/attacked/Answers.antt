@@ -1,21 +1,16 @@
-use Rattle.std.proofs.Common.{◌<◌, sym, arith}
-use Rattle.std.proofs.lemmas.Bool.Decides.{nat_tests}
+use Rattle.std.proofs.Common.{false, sym, ◌∙◌, ⊎_elim, rules}
+use Rattle.std.proofs.lemmas.Bool.{cases_lt, cond-true, cond-false, lt-ltb, le-ltb}
+use Rattle.board.specs.Attack.{attacks}
 use Rattle.board.proofs.AttackLaws.{attacks_past}
 use Rattle.mailbox.specs.Cells.{codes_of}
-use Rattle.board.proofs.HitLaws.{attacks_by_kind}
+use Rattle.mailbox.proofs.SquareLaws.{by_square}
 use Rattle.mailbox.proofs.MailboxBoard.attacked.Goals as goal
 
-pub returns-then-square-gt63 : goal.returns-then-square-gt63
-returns-then-square-gt63 c = sym (attacks_past _ _ c.args.square (omega arith))
-
-pub returns-then-king : goal.returns-then-king
-returns-then-king c =
-    let h : c.args.square < 64 = omega arith in
-    let e = attacks_by_kind c.args.by (codes_of c.args.self.now.cells) c.args.square h in
-    grind (arith, nat_tests)
-
-pub returns-else-king : goal.returns-else-king
-returns-else-king c =
-    let h : c.args.square < 64 = omega arith in
-    let e = attacks_by_kind c.args.by (codes_of c.args.self.now.cells) c.args.square h in
-    grind (arith, nat_tests)
+pub returns : goal.returns
+returns c =
+    let by = c.args.by in
+    let codes = codes_of c.args.self.now.cells in
+    let t = c.args.square in
+    by_square t c.new.result c.is_some_and.result false (attacks by codes) _ c.new.ensures c.is_some_and.ensures (λ s k. search rules)
+    ∙ ⊎_elim (λ h. cond-true _ (attacks by codes t) false (lt-ltb t 64 h))
+    (λ h. cond-false _ (attacks by codes t) false (le-ltb t 64 h) ∙ sym (attacks_past by codes t h)) (cases_lt t 64)

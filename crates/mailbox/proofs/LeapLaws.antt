@@ -1,5 +1,6 @@
 -- Leaps on cells are steps on squares.
-use Rattle.std.proofs.Common.{◌≡◌, ℕ, ◌+◌, ◌-◌, ◌<◌, ◌≤◌, Bool, true, ◌&&◌, eqb, ltb, List, length, get_or, sym, refl, ap, ◌∙◌, ⊎_elim, arith}
+use Rattle.std.proofs.Common.{◌≡◌, ℕ, ◌+◌, ◌-◌, ◌<◌, ◌≤◌, Bool, true, false, MatchBool, ◌&&◌, eqb, ltb, List, length, get_or, sym, refl, ap, ◌∙◌, ⊎_elim, arith}
+use Rattle.std.specs.List.{AllWithin, HoldsAt}
 use Rattle.std.proofs.lemmas.Bool.{and_parts, and_from, eqb-true, eq-eqb, ltb-true, lt-ltb}
 use Rattle.board.specs.declared.side.Side.{Side}
 use Rattle.board.specs.declared.side.Side.TheVariants.{White, Black}
@@ -8,10 +9,10 @@ use Rattle.board.specs.declared.piece.Kind.TheVariants.{Pawn, Knight, Bishop, Ro
 use Rattle.board.specs.Below.{some_below, all_below}
 use Rattle.board.specs.Geometry.{knight_step, king_step}
 use Rattle.board.specs.Piece.{code, holds}
-use Rattle.board.specs.Attack.{pawn_attack}
-use Rattle.board.proofs.BelowLaws.{all_at, some_at, some_from, same_tests}
+use Rattle.board.specs.Attack.{pawn_attack, step}
+use Rattle.board.proofs.BelowLaws.{all_at, some_at, some_from, some_none, same_tests}
 use Rattle.board.specs.Hits.{step_hit}
-use Rattle.mailbox.specs.Cells.{cell_of, square_of, codes_of, Bordered, leap_hit, knight_leaps, king_leaps, pawn_leaps}
+use Rattle.mailbox.specs.Cells.{cell_of, square_of, codes_of, Bordered, leap_hit, leaps_of, knight_leaps, king_leaps, pawn_leaps}
 use Rattle.mailbox.specs.CellFacts.{implies, implied}
 use Rattle.mailbox.specs.CellLists.{codes_at, read_cell, Inner, Outer}
 
@@ -29,15 +30,15 @@ pub record Leaps (step : ℕ → ℕ → Bool) (leaps : List ℕ) : Type 0 where
   into : all_below 64 (λ s. all_below 64 (λ t. into_test step leaps s t)) ≡ true
   out : all_below 64 (λ t. all_below (length leaps) (λ i. out_test step leaps t i)) ≡ true
 
-pub knights : Leaps knight_step knight_leaps
+knights : Leaps knight_step knight_leaps
 unfolding all_below some_below cell_of square_of knight_step
 knights = record { into = refl; out = refl }
 
-pub kings : Leaps king_step king_leaps
+kings : Leaps king_step king_leaps
 unfolding all_below some_below cell_of square_of king_step
 kings = record { into = refl; out = refl }
 
-pub pawns : (side : Side) → Leaps (pawn_attack side) (pawn_leaps side)
+pawns : (side : Side) → Leaps (pawn_attack side) (pawn_leaps side)
 unfolding all_below some_below cell_of square_of pawn_attack
 pawns White = record { into = refl; out = refl }
 pawns Black = record { into = refl; out = refl }
@@ -88,5 +89,19 @@ module _ (cells : List ℕ) (border : Bordered cells) (t : ℕ) (ht : t < 64) (s
   pub leap_answer : (found : ℕ) (r : Bool) → found ≡ code side kind → r ≡ leap_hit cells t found leaps → r ≡ step_hit side (codes_of cells) kind step t
   leap_answer found r e h = h ∙ ap (λ v. leap_hit cells t v leaps) e ∙ same_tests _ _ leap_from leap_to
 
-pub pawns_of : (side v : Side) → side ≡ v → Leaps (pawn_attack side) (pawn_leaps v)
-pawns_of side v e = rw e (pawns v)
+-- the leaps of each kind
+pub leap_law : (side : Side) (kind : Kind) → Leaps (step side kind) (leaps_of side kind)
+unfolding all_below some_below cell_of square_of
+leap_law side Pawn = pawns side
+leap_law side Knight = knights
+leap_law side Bishop = record { into = refl; out = refl }
+leap_law side Rook = record { into = refl; out = refl }
+leap_law side Queen = record { into = refl; out = refl }
+leap_law side King = kings
+
+-- the answer of a search over a list, as a test of its places
+pub some_place : (p : ℕ → Bool) (xs : List ℕ) (r : Bool)
+    → MatchBool r ((k : ℕ) × (k < length xs) × HoldsAt (λ x. p x ≡ true) xs k) (AllWithin (λ x. p x ≡ false) xs 0 (length xs))
+    → r ≡ some_below (length xs) (λ i. p (get_or xs i 0))
+some_place p xs true found = sym (some_from (length xs) (λ i. p (get_or xs i 0)) found.0 found.1 (found.2 0))
+some_place p xs false none = sym (some_none (length xs) (λ i. p (get_or xs i 0)) (λ k h. none k 0 (omega arith) h))
