@@ -1,7 +1,7 @@
 //! Twelve words as a board: what they say of a square and of a code, and a write.
-ghost use Rattle.std.specs.Prelude.{◌≡◌, ◌≤◌, not, set as put_at, ◌==◌, nat_eq, slice_index};
+ghost use Rattle.std.specs.Prelude.{◌≡◌, ℕ, suc, ◌<◌, ◌≤◌, ◌≢◌, not, set as put_at, ◌==◌, nat_eq, slice_index};
 ghost use Rattle.rays.specs.Sets.{SetOf};
-ghost use Rattle.bitboard.specs.Codes.{code_at, codes_of, Lifted, Placed};
+ghost use Rattle.bitboard.specs.Codes.{code_at, codes_of};
 
 use crate::Bitboard;
 use board::square::Square;
@@ -43,30 +43,20 @@ impl Bitboard {
         ensures list { codes_of self.new.words ≡ put_at (codes_of self.old.words) square.number code }
     {
         let former = self.holder(square);
-        lift(&mut self.words, former, square);
-        place(&mut self.words, code, square);
+        change(&mut self.words, former, square, bits::without);
+        change(&mut self.words, code, square, bits::with);
         former
     }
 }
 
-// `lift` and `place` stay two functions: one that took the step as a closure would need a clause on the closure and lemmas on it, for one line saved.
-
-/// Takes a square out of the word of a code.
-fn lift(words: &mut [u64; 12], code: u8, square: Square)
-    requires { code ≤ 12 }
-    ensures { Lifted code square.number words.old words.new }
+/// Changes the word of a code by a step at a square; code 0 has no word.
+fn change<F: FnOnce(u64, u8) -> u64>(words: &mut [u64; 12], code: u8, square: Square, step: F)
+    requires small { code ≤ 12 }
+    requires callable { F.IsAlwaysCallable step }
+    ensures chosen { (i : ℕ) → i < 12 → code ≡ suc i → F.post step (slice_index words.old i) square.number (slice_index words.new i) }
+    ensures others { (i : ℕ) → i < 12 → code ≢ suc i → slice_index words.new i ≡ slice_index words.old i }
 {
     if let Some(place) = usize::from(code).checked_sub(1) {
-        words[place] = bits::without(words[place], square.number());
-    }
-}
-
-/// Puts a square into the word of a code.
-fn place(words: &mut [u64; 12], code: u8, square: Square)
-    requires { code ≤ 12 }
-    ensures { Placed code square.number words.old words.new }
-{
-    if let Some(place) = usize::from(code).checked_sub(1) {
-        words[place] = bits::with(words[place], square.number());
+        words[place] = step(words[place], square.number());
     }
 }
