@@ -1,5 +1,5 @@
 //! Twelve words as a board: what they say of a square and of a code, and a write.
-ghost use Rattle.std.specs.Prelude.{◌≡◌, ℕ, suc, ◌<◌, ◌≤◌, ◌≢◌, not, set as put_at, ◌==◌, nat_eq, slice_index};
+ghost use Rattle.std.specs.Prelude.{◌≡◌, ℕ, suc, ◌<◌, ◌≤◌, ◌≢◌, not, ◌==◌, slice_index, slice_set};
 ghost use Rattle.rays.specs.Sets.{SetOf};
 ghost use Rattle.bitboard.specs.Codes.{code_at, codes_of};
 
@@ -27,7 +27,7 @@ impl Bitboard {
 
     /// The squares that hold a code.
     pub(crate) fn squares(&self, code: u8) -> u64
-        ensures { SetOf (λ s. nat_eq (slice_index (codes_of self.now.words) s) code) result }
+        ensures { SetOf (λ s. slice_index (codes_of self.now.words) s == code) result }
     {
         match code {
             0 => !self.occupied(),
@@ -40,7 +40,7 @@ impl Bitboard {
     pub(crate) fn write(&mut self, square: Square, code: u8) -> u8
         requires { code ≤ 12 }
         ensures former { result ≡ slice_index (codes_of self.old.words) square.number }
-        ensures list { codes_of self.new.words ≡ put_at (codes_of self.old.words) square.number code }
+        ensures list { codes_of self.new.words ≡ slice_set (codes_of self.old.words) square.number code }
     {
         let former = self.holder(square);
         change(&mut self.words, former, square, bits::without);

@@ -52,10 +52,8 @@ fn cleared() -> [u8; 120]
     ensures zero { (s : ℕ) → s < 64 → at_square result s ≡ 0 }
 {
     let mut cells = [BORDER; 120];
-    for number in 0..64 {
-        if let Some(square) = Square::new(number) {
-            cells[cell(square)] = 0;
-        }
+    for square in (0..64).filter_map(Square::new) {
+        cells[cell(square)] = 0;
     }
     cells
 }
