@@ -1,5 +1,6 @@
 -- Attacks on a square, from sets of squares.
 use Rattle.std.proofs.Common.{◌≡◌, ℕ, ◌%◌, ◌<◌, Bool, true, false, cond, not, ◌&&◌, ◌||◌, eqb, ltb, List, get_or, refl, ap, ◌∙◌}
+use Rattle.std.proofs.Math.Bool.{not-not}
 use Rattle.std.proofs.lemmas.Bool.{ne_eqb, lt-ltb, false≢true}
 use Rattle.board.specs.declared.side.Side.{Side}
 use Rattle.board.specs.declared.piece.Kind.{Kind}
@@ -14,7 +15,6 @@ use Rattle.board.specs.Hits.{step_hit, line_hit}
 use Rattle.rays.specs.Sets.{has, SetOf}
 use Rattle.rays.specs.Lines.{free_between, first_on}
 use Rattle.rays.proofs.LineLaws.{lies_within}
-use Rattle.bitboard.specs.CodeLaws.{twice}
 
 -- a piece that steps: its squares meet those from which it attacks
 pub step_answer : (side : Side) (codes : List ℕ) (kind : Kind) (step : ℕ → ℕ → Bool) (t at from : ℕ) → t < 64
@@ -38,7 +38,7 @@ unfolding line_hit first_on attacks_along free_between clear_between
 line_answer side codes d t occupied some hd ht f g =
     some_same 64 _ _ (λ s h.
     let clear : free_between occupied d t s ≡ clear_between codes d t s =
-    all_same 64 _ _ (λ u l. ap (λ b. not (beyond (direction d) t u && beyond (direction d) u s) || b) (ap not (f u l) ∙ twice _)) in
+    all_same 64 _ _ (λ u l. ap (λ b. not (beyond (direction d) t u && beyond (direction d) u s) || b) (ap not (f u l) ∙ not-not _)) in
     rw (g s h, lies_within d t s hd ht, f s h, clear)
     (regroup (slides side d (get_or codes s 0)) (beyond (direction d) t s) (not (eqb (get_or codes s 0) 0)) (clear_between codes d t s)
     (λ e. ap not (ne_eqb _ _ (slides_zero side d (get_or codes s 0) e)))))

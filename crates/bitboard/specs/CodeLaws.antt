@@ -2,6 +2,7 @@
 use Rattle.std.specs.Prelude.{◌≡◌, ℕ, zero, suc, ◌<◌, ◌≤◌, Bool, true, false, not, ◌&&◌, ◌||◌, ◌⊎◌, List, length, replicate, Some, None, Option, ◌==◌, ◌≢◌, bit_or, nat_eq, nat_le, slice_index, slice_set, fold, [], ◌∷◌}
 use Rattle.std.specs.List.{list_any, AllWithin, HoldsAt}
 use Rattle.std.specs.Option.{MatchOption}
+use Rattle.std.proofs.Math.Bool.{or-false, or_assoc}
 use Rattle.std.proofs.lemmas.List.Folds.{list_any_at, list_any_none}
 use Rattle.std.proofs.lemmas.List.Elements.{All-from_get_or}
 use Rattle.std.proofs.Math.Path.{refl, ap}
@@ -16,10 +17,6 @@ use Rattle.board.proofs.BelowLaws.{least_found, least_none, least_some, least_pa
 use Rattle.rays.specs.Sets.{has, SetOf}
 use Rattle.rays.proofs.SetLaws.{has_zero, has_or}
 use Rattle.bitboard.specs.Codes.{in_word, code_of, code_at, codes_of, Apart, Lifted, Placed}
-
-pub twice : (b : Bool) → not (not b) ≡ b
-twice true = refl
-twice false = refl
 
 module _ (words : List ℕ) (s : ℕ) where
   pub code_first : (i : ℕ) → ((k : ℕ) → k < i → in_word words k s ≡ false) → in_word words i s ≡ true → i < 12 → code_at words s ≡ suc i
@@ -156,22 +153,14 @@ module _ (words mid after : List ℕ) (square old c : ℕ) (hs : square < 64) (h
       ∙ sym (get_or-set_other (codes_of words) square s c 0 d ∙ codes_at words s hs'))
       (cases_eq s square))
 
-or_none : (a : Bool) → a ≡ (a || false)
-or_none true = refl
-or_none false = refl
-
-or_regroup : (a b c : Bool) → ((a || b) || c) ≡ (a || (b || c))
-or_regroup true b c = refl
-or_regroup false b c = refl
-
 -- the union of the first words
 abbrev pub Covers : List ℕ → ℕ → ℕ → Type 0
 Covers words n all =
     (s : ℕ) → ((k : ℕ) → k < n → in_word words k s ≡ true → has all s ≡ true) × (((k : ℕ) → k < n → in_word words k s ≡ false) → has all s ≡ false)
 
 has_fold : (ws : List ℕ) (a s : ℕ) → has (fold bit_or a ws) s ≡ (has a s || list_any (λ w. has w s) ws)
-has_fold [] a s = or_none (has a s)
-has_fold (w ∷ ws) a s = has_fold ws (bit_or a w) s ∙ ap (λ b. b || list_any (λ w. has w s) ws) (has_or a w s) ∙ or_regroup (has a s) (has w s) _
+has_fold [] a s = sym (or-false (has a s))
+has_fold (w ∷ ws) a s = has_fold ws (bit_or a w) s ∙ ap (λ b. b || list_any (λ w. has w s) ws) (has_or a w s) ∙ or_assoc (has a s) (has w s) _
 
 pub covers_fold : (words : List ℕ) → length words ≡ 12 → Covers words 12 (fold bit_or 0 words)
 covers_fold words l s =

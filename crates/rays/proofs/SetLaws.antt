@@ -3,6 +3,7 @@ use Rattle.std.proofs.Common.{◌≡◌, ℕ, zero, suc, ◌-◌, ◌*◌, ◌/�
 use Rattle.std.specs.Option.{SomeIff, IfSome, is_some, unwrap_or}
 use lib.Bits.{bit_and, bit_or, and_le_l}
 use lib.Count.{count_trailing_zeros, count_leading_zeros}
+use Rattle.std.proofs.Math.Bool.{and_comm, or_comm}
 use Rattle.std.proofs.lemmas.Nat.{one_shl, and_mask, shr_split}
 use Rattle.std.proofs.lemmas.Bool.{cases_eq, cases_lt, eq-eqb, ne_eqb, eqb-true, eqb-false, and_left, le-leb, lt-leb, not-true, not-false}
 use Rattle.board.specs.Below.{some_below, least_below}
@@ -76,28 +77,16 @@ has_one k n h =
     ∙ ⊎_elim (λ (e : n ≡ k). rw e (has_in (2 ^ k) k (bit_one k) ∙ sym (eq-eqb k k refl)))
     (λ (d : n ≡ k → ⊥). has_out (2 ^ k) n (bit_other k n d) ∙ sym (ne_eqb n k d)) (cases_eq n k)
 
-or_swap : (a b : Bool) → (a || b) ≡ (b || a)
-or_swap true true = refl
-or_swap true false = refl
-or_swap false true = refl
-or_swap false false = refl
-
-and_swap : (a b : Bool) → (a && b) ≡ (b && a)
-and_swap true true = refl
-and_swap true false = refl
-and_swap false true = refl
-and_swap false false = refl
-
 pub only_is : (k : ℕ) (o : Option ℕ) → SomeIff o (k < 64) ((1 * 2 ^ k) % 2 ^ 64) → SetOf (λ s. eqb s k) (unwrap_or o 0)
 only_is k None f s l = has_zero s ∙ sym (ne_eqb s k (λ e. f (omega arith)))
 only_is k (Some w) f s l = ap (λ x. has x s) f.1 ∙ has_one k s f.0
 
 -- a set is joined to another; it is taken out of another
 pub with_all : (w v : ℕ) (p : ℕ → Bool) → SetOf p v → SetOf (λ s. p s || has w s) (bit_or w v)
-with_all w v p f s l = has_or w v s ∙ or_swap (has w s) _ ∙ ap (λ x. x || has w s) (f s l)
+with_all w v p f s l = has_or w v s ∙ or_comm (has w s) _ ∙ ap (λ x. x || has w s) (f s l)
 
 pub without_all : (w v : ℕ) (p : ℕ → Bool) → v < 2 ^ 64 → SetOf p v → SetOf (λ s. not (p s) && has w s) (bit_and w ((2 ^ 64 - 1) - v))
-without_all w v p small f s l = has_and w _ s ∙ and_swap (has w s) _ ∙ ap (λ x. x && has w s) (has_not v s small l ∙ ap not (f s l))
+without_all w v p small f s l = has_and w _ s ∙ and_comm (has w s) _ ∙ ap (λ x. x && has w s) (has_not v s small l ∙ ap not (f s l))
 
 -- the members from k up
 pub upward_in : (w k : ℕ) → w < 2 ^ 64 → SetOf (λ s. leb k s && has w s) ((w / 2 ^ k * 2 ^ k) % 2 ^ 64)
