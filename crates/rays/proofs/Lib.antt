@@ -1,4 +1,3 @@
-pub mod BitLaws
 pub mod SetLaws
 pub mod TableLaws
 pub mod LineLaws
