@@ -1,3 +1,2 @@
 pub mod HitLaws
-pub mod SquareLaws
 pub mod ChangeLaws

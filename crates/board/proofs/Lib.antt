@@ -5,3 +5,4 @@ pub mod PutLaws
 pub mod NextLaws
 pub mod RuleLaws
 pub mod ChainLaws
+pub mod SquareLaws

@@ -1,5 +1,4 @@
 pub mod Walk
 pub mod LeapLaws
 pub mod Lines
-pub mod SquareLaws
 pub mod SquareRuns

@@ -9,7 +9,7 @@ use Rattle.std.specs.declared.ops.Range.{Range}
 use Rattle.std.proofs.iter.Yields.{nat_range_steps}
 use denote.Param.Members.{Mut}
 use Rattle.board.specs.declared.square.Square.{Square}
-use Rattle.mailbox.proofs.SquareLaws.{SquareOf, is_square, no_square}
+use Rattle.board.proofs.SquareLaws.{SquareOf, is_square, no_square}
 
 -- what a call of `next` gives, and where it leaves the range
 abbrev pub Turn : Range ℕ → Option Square → Range ℕ → Type 0

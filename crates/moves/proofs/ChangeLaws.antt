@@ -55,9 +55,6 @@ module _ (l next : List ℕ) (s : ℕ) (long : length l ≡ 64) (shown : Shown n
       (λ (d : j ≡ s → ⊥). put_other l s (get_or next s 0) j d ∙ same j (off_both j s ss d f))
       (cases_eq j s)
 
-pub same_turned : (squares l k : List ℕ) → SameBut squares l k → SameBut squares k l
-same_turned squares l k same j f = sym (same j f)
-
 -- one turn of the puts, and their end
 pub put_turn : (squares l k next : List ℕ) (i : ℕ) → i < length squares → length l ≡ 64 → Shown next → k ≡ put_list l (get_or squares i 0) (get_or next (get_or squares i 0) 0)
     → SameBut (drop i squares) l next → SameBut (drop (i + 1) squares) k next

@@ -1,4 +1,4 @@
--- The squares strictly between two of a line are those that steps along it come to.
+-- The squares strictly between two of a line are some that steps along it come to.
 use Rattle.std.proofs.Common.{ap, ◌≡◌, ℕ, ◌+◌, ◌-◌, ◌*◌, ◌/◌, ◌%◌, ◌<◌, ◌≤◌, ◌⊎◌, List, get_or, sym, ◌∙◌, subst, inl, inr, ⊎_elim, mul-le-mul_left, mul-one, mul-add, arith}
 use Rattle.std.proofs.lemmas.Bool.{cases_lt, cases_eq, cond-true, cond-false, eq-eqb, ne_eqb, lt-ltb, le-ltb}
 use Rattle.board.specs.Geometry.{file, rank}
@@ -22,38 +22,14 @@ Comes step low u high = (j : ℕ) × (0 < j) × (u ≡ low + step * j) × (u < h
 
 -- by the four steps
 module _ (low high : ℕ) (l : low < high) (h : high < 64) where
-  rank_there : rank low ≡ rank high → (j : ℕ) → 0 < j → low + 1 * j < high → Stepped Rank low (low + 1 * j) high
-  rank_there on j p q = (omega arith, omega arith, (λ e. omega arith, λ e. omega arith, omega arith, omega arith))
-
-  file_there : file low ≡ file high → (j : ℕ) → 0 < j → low + 8 * j < high → Stepped File low (low + 8 * j) high
-  file_there on j p q = (omega arith, omega arith, (λ e. omega arith, λ e. omega arith, omega arith, omega arith))
-
   rank_back : rank low ≡ rank high → (u : ℕ) → Stepped Rank low u high → Comes 1 low u high
   rank_back on u (a, b, (p, q, f, r)) = (u - low, omega arith, omega arith, omega arith)
 
   file_back : file low ≡ file high → (u : ℕ) → Stepped File low u high → Comes 8 low u high
   file_back on u (a, b, (p, q, f, r)) = (rank u - rank low, omega arith, omega arith, omega arith)
 
-  up_there : On Diagonal low high → file low < file high → (j : ℕ) → 0 < j → low + 9 * j < high → Stepped Diagonal low (low + 9 * j) high
-  up_there on k j p q =
-      let n : high ≡ low + 9 * (high / 8 - low / 8) = omega arith in
-      let jn : j < high / 8 - low / 8 = omega arith in
-      let fj : low % 8 + j < 8 = omega arith in
-      let fu : (low + 9 * j) % 8 ≡ low % 8 + j = omega arith in
-      let ru : (low + 9 * j) / 8 ≡ low / 8 + j = omega arith in
-      (omega arith, omega arith, (λ e. omega arith, λ e. omega arith, omega arith, omega arith))
-
   up_back : On Diagonal low high → file low < file high → (u : ℕ) → Stepped Diagonal low u high → Comes 9 low u high
   up_back on k u (a, b, (p, q, f, r)) = (rank u - rank low, omega arith, omega arith, omega arith)
-
-  down_there : On Diagonal low high → file high < file low → (j : ℕ) → 0 < j → low + 7 * j < high → Stepped Diagonal low (low + 7 * j) high
-  down_there on k j p q =
-      let n : high ≡ low + 7 * (high / 8 - low / 8) = omega arith in
-      let jn : j < high / 8 - low / 8 = omega arith in
-      let fj : j ≤ low % 8 = omega arith in
-      let fu : (low + 7 * j) % 8 + j ≡ low % 8 = omega arith in
-      let ru : (low + 7 * j) / 8 ≡ low / 8 + j = omega arith in
-      (omega arith, omega arith, (λ e. omega arith, λ e. omega arith, omega arith, omega arith))
 
   down_back : On Diagonal low high → file high < file low → (u : ℕ) → Stepped Diagonal low u high → Comes 7 low u high
   down_back on k u (a, b, (p, q, f, r)) = (rank u - rank low, omega arith, omega arith, omega arith)
@@ -85,15 +61,6 @@ module _ (low high : ℕ) (l : low < high) (h : high < 64) where
       (λ (k : file high ≤ file low). inr (omega arith))
       (cases_lt (file low) (file high))
 
-  -- what steps come to lies strictly between
-  pub steps_there : (x : Line) → On x low high → (j : ℕ) → 0 < j → low + step * j < high → Stepped x low (low + step * j) high
-  steps_there Rank on j p q = let e = step_one on in rw e (rank_there low high l h on j p (rw e at q))
-  steps_there File on j p q = let e = step_eight on in rw e (file_there low high l h on j p (rw e at q))
-  steps_there Diagonal on j p q = ⊎_elim
-      (λ (k : file low < file high). let e = step_nine on k in rw e (up_there low high l h on k j p (rw e at q)))
-      (λ (k : file high < file low). let e = step_seven on k in rw e (down_there low high l h on k j p (rw e at q)))
-      (slope on)
-
   -- what lies strictly between, steps come to
   pub steps_back : (x : Line) → On x low high → (u : ℕ) → Stepped x low u high → Comes step low u high
   steps_back Rank on u b = rw (step_one on) (rank_back low high l h on u b)
@@ -123,13 +90,6 @@ module _ (codes : List ℕ) (low high step at k : ℕ) (rises : low < high) (ins
     (l : Line) (on : On l low high) where
   same_place : (j : ℕ) → low + step * j ≡ low + line_step low high * j
   same_place j = ap (λ (x : ℕ). low + x * j) es
-
-  pub walk_stopped : at < high → (get_or codes at 0 ≡ 0 → ⊥) → Free l codes low high → ⊥
-  walk_stopped h z f =
-      let e = ea ∙ same_place (k + 1) in
-      let b = subst (λ (x : ℕ). x < high) e h in
-      let t = steps_there low high rises inside l on (k + 1) (omega arith) b in
-      z (subst (λ (x : ℕ). get_or codes x 0 ≡ 0) (sym e) (f (low + line_step low high * (k + 1)) (omega arith) t.0 t.1 t.2))
 
   pub walk_ended : high ≤ at → ((j : ℕ) → 0 < j → j ≤ k → get_or codes (low + step * j) 0 ≡ 0) → Free l codes low high
   walk_ended h f u hu a b c =

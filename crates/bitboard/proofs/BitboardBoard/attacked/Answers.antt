@@ -3,7 +3,7 @@ use Rattle.std.proofs.lemmas.Bool.{cases_lt, cond-true, cond-false, lt-ltb, le-l
 use Rattle.board.specs.Attack.{attacks}
 use Rattle.board.proofs.AttackLaws.{attacks_past}
 use Rattle.bitboard.specs.Codes.{codes_of}
-use Rattle.bitboard.proofs.SquareLaws.{by_square}
+use Rattle.board.proofs.SquareLaws.{by_square}
 use Rattle.bitboard.proofs.BitboardBoard.attacked.Goals as goal
 
 pub returns : goal.returns

@@ -1,7 +1,7 @@
 use Rattle.std.proofs.Common.{◌≡◌, get_or, sym, ◌∙◌, rules}
 use Rattle.bitboard.specs.Codes.{code_at, codes_of}
 use Rattle.bitboard.specs.CodeLaws.{codes_at}
-use Rattle.bitboard.proofs.SquareLaws.{by_square}
+use Rattle.board.proofs.SquareLaws.{by_square}
 use Rattle.bitboard.proofs.BitboardBoard.look.Goals as goal
 
 pub returns : goal.returns

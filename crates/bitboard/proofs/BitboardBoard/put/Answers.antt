@@ -1,7 +1,7 @@
 use Rattle.std.proofs.Common.{sym, ◌∙◌, inl, inr}
 use Rattle.board.proofs.PutLaws.{put_done, put_refused}
 use Rattle.bitboard.specs.Codes.{codes_of}
-use Rattle.bitboard.proofs.SquareLaws.{is_square, no_square}
+use Rattle.board.proofs.SquareLaws.{is_square, no_square}
 use Rattle.bitboard.proofs.BitboardBoard.put.Goals as goal
 
 pub returns-in-Some : goal.returns-in-Some

@@ -3,7 +3,7 @@ use Rattle.std.proofs.lemmas.Bool.{cases_lt, cond-true, cond-false, lt-ltb, le-l
 use Rattle.board.specs.Attack.{attacks}
 use Rattle.board.proofs.AttackLaws.{attacks_past}
 use Rattle.mailbox.specs.Cells.{codes_of}
-use Rattle.mailbox.proofs.SquareLaws.{by_square}
+use Rattle.board.proofs.SquareLaws.{by_square}
 use Rattle.mailbox.proofs.MailboxBoard.attacked.Goals as goal
 
 pub returns : goal.returns

@@ -1,7 +1,7 @@
 use Rattle.std.proofs.Common.{◌≡◌, get_or, sym, ◌∙◌, rules}
 use Rattle.mailbox.specs.Cells.{at_square, codes_of}
 use Rattle.mailbox.specs.CellLists.{codes_at}
-use Rattle.mailbox.proofs.SquareLaws.{by_square}
+use Rattle.board.proofs.SquareLaws.{by_square}
 use Rattle.mailbox.proofs.MailboxBoard.look.Goals as goal
 
 pub returns : goal.returns

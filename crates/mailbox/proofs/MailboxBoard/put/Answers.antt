@@ -2,7 +2,7 @@ use Rattle.std.proofs.Common.{◌≡◌, length, sym, ◌∙◌, inl, inr, rules
 use Rattle.board.proofs.PutLaws.{put_done, put_refused}
 use Rattle.mailbox.specs.Cells.{codes_of}
 use Rattle.mailbox.specs.CellLists.{codes_at, codes_set, border_kept, coded_kept}
-use Rattle.mailbox.proofs.SquareLaws.{is_square, no_square}
+use Rattle.board.proofs.SquareLaws.{is_square, no_square}
 use Rattle.mailbox.proofs.MailboxBoard.put.Goals as goal
 
 pub returns-in-Some : goal.returns-in-Some
