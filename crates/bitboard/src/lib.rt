@@ -15,7 +15,7 @@ mod attack;
 mod words;
 
 /// A board as words.
-#[derive(Clone, Copy)]
+#[derive(Clone, Copy, PartialEq, Eq, Debug)]
 pub struct Bitboard {
     words: [u64; 12],
     ghost apart: { Apart words },

@@ -30,7 +30,7 @@ const WHITE_PAWN: [u8; 2] = [10, 12];
 const BLACK_PAWN: [u8; 2] = [30, 32];
 
 /// A board as cells.
-#[derive(Clone, Copy)]
+#[derive(Clone, Copy, PartialEq, Eq, Debug)]
 pub struct Mailbox {
     cells: [u8; 120],
     ghost border: { Bordered cells },
