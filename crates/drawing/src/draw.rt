@@ -53,10 +53,8 @@ fn fen_line(out: &mut Vec<u8>, position: &Position) -> Result<(), AllocError>
 {
     // The longest FEN fits, so the write does not fail.
     let mut line = [0; 124];
-    match fen::write(position, &mut line) {
-        Ok(length) => out.extend_from_slice(&line[..length]),
-        Err(_) => unreachable(),
-    }
+    let length = fen::write(position, &mut line).unwrap();
+    out.extend_from_slice(&line[..length])
 }
 
 /// A position, with the board left to show it.

@@ -21,9 +21,7 @@ fn append<const N: usize>(text: &mut ArrayVec<u8, N>, piece: &[u8])
     ensures items { text.new.items ≡ text.old.items ++ piece.now }
     ensures len { array_vec_len text.new ≡ array_vec_len text.old + length piece.now }
 {
-    for byte in piece {
-        text.push(*byte);
-    }
+    text.try_extend_from_slice(piece).unwrap();
 }
 
 // A digit for so many empty squares in a row, if there are any.
