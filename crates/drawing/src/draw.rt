@@ -35,7 +35,7 @@ fn ranks(out: &mut Vec<u8>, codes: &[u8; 64]) -> Result<(), AllocError>
     Ok(())
 }
 
-// Whose move it is, and whether that side is in check.
+// Whose move it is, and whether that side is in check. Not Display: a line of a drawing is not how a side is printed.
 fn turn(side: Side, check: bool) -> &'static [u8]
     ensures { result.now ≡ turn_drawn side check }
 {

@@ -26,7 +26,7 @@ fn arriving(setup: &Setup, m: Move) -> u8
     }
 }
 
-// A code goes from one square to another.
+// A code goes from one square to another. The codes alone: they belong to a position in the making.
 #[tactic(auto, unfolding(rules::specs::After::moved))]
 fn go(codes: &mut [u8; 64], from: usize, to: usize, code: u8)
     ensures { codes.new ≡ moved codes.old from to code }

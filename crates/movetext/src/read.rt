@@ -15,7 +15,7 @@ use faults::NotationFault;
 use moves::action::Promotion;
 use rules::rights::Wing;
 
-// The kind that a letter stands for.
+// The kind that a letter stands for in move text. Not TryFrom: in FEN a letter says a side as well.
 fn letter(byte: u8) -> Option<Kind>
     ensures { kind_number result ≡ letter_kind byte }
 {
@@ -29,7 +29,7 @@ fn letter(byte: u8) -> Option<Kind>
     }
 }
 
-// What a pawn becomes by the letter behind its target.
+// What a pawn becomes by the letter behind its target. Not TryFrom: there is no fault to say of another byte.
 fn promotion(byte: u8) -> Option<Promotion>
     ensures { option_map (λ p. promotion_number (Some p)) result ≡ (if is_promotion byte then Some (letter_kind byte) else None) }
 {

@@ -31,6 +31,7 @@ pub(crate) fn front(text: &[u8]) -> Option<(u16, &[u8])>
 }
 
 /// The number at a place, and the place behind it; none where no digit stands there, or a leading zero.
+// A text and a place, as callers have them: over slices it is `front`.
 pub fn number(text: &[u8], at: usize) -> Option<(u16, usize)>
     ensures { rest_of (λ n. n) text.now result ≡ read_number (drop at text.now) }
 {
@@ -39,7 +40,7 @@ pub fn number(text: &[u8], at: usize) -> Option<(u16, usize)>
 }
 
 /// The digits of a number, at the end of an array.
-#[derive(Clone, Copy)]
+#[derive(Clone, Copy, PartialEq, Eq, Debug)]
 pub struct Digits {
     // The start stands beside the array, since itoa fills it from its end and the type is `Copy`.
     bytes: [u8; 20],

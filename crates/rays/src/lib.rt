@@ -34,7 +34,8 @@ pub fn ray(direction: u8, square: u8) -> u64
     entry(&RAYS, direction, square)
 }
 
-/// The squares of a row of leaps to a square; none for a square above 63.
+/// The squares of a row of leaps to a square; none for a square above 63. A row and not a table of its own: what a constant holds is computed
+/// where the table is passed to `entry`, and not where it is returned.
 fn leaps(row: u8, square: u8) -> u64
     requires { row < 4 }
     ensures { SetOf (λ s. nat_lt square 64 && leap row square s) result }

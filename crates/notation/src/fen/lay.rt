@@ -67,7 +67,7 @@ fn placement(codes: &[u8; 64]) -> ArrayVec<u8, 72>
     text
 }
 
-// The letter of a side.
+// The letter of a side in FEN, which is not how a side is printed elsewhere: so not Display.
 fn side_letter(side: Side) -> u8
     ensures { result ≡ letter_of_side side }
 {
