@@ -17,7 +17,7 @@ places() {
 }
 
 places '1 numbers for what an enum, an Option or a Result says' \
-    'Option<Breach>|Option<Option<|promoted\(|piece_numbered\(|return 255|^ *255$|direction: u8|\bd: usize|row: u8|\{ 0 \} else|else \{ 0 \}|None => (None|false|true|Err)|Some\(_?[a-z]*\) => (true|Err|Ok)|Err\(_\) =>|number < [234]0 '
+    'Option<Breach>|Option<Option<|promoted\(|piece_numbered\(|return 255|^ *255$|direction: (u8|usize)|\bd: usize|row: u8|\{ 0 \} else|else \{ 0 \}|None => (None|false|true|Err)|Some\(_?[a-z]*\) => (true|Err|Ok)|Err\(_\) =>|number < [234]0 '
 places '2 functions that differ in a constant, a type or a callee' \
     'fn (pawns?|knights?|kings?|lift|place|castles_(short|long)|near|far|without_(check|equals|capture)|(rank|file)_mark|code_on|one_ahead|king_square|(king|queen)side_rook|(first|end)_rank|crossing_rank|(side|rights|en_passant)(_field)?|checkmate|stalemate|moves_rook_too|steps_twice)[(<]|struct (Line|Digits)'
 places '3 loops' '^\s*(for|while|loop)\b'

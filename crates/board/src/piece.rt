@@ -21,7 +21,7 @@ const LETTERS: [u8; 13] = *b".PNBRQKpnbrqk";
 
 impl Kind {
     /// The number of the kind, which is the code of the white piece.
-    // A method and not From, as every `number` and `code` here: a call says by its name which number it gives.
+    // A method and not From, as code and letters here: a call says by its name which number or byte it gives.
     pub fn number(self) -> u8
         ensures number { result ≡ number_of self }
         ensures most { result ≤ 6 }

@@ -35,7 +35,7 @@ impl Square {
         }
     }
 
-    /// The number of the square.
+    /// The number of the square. A method and not From: its other numbers are its file and its rank.
     pub fn number(self) -> u8
         ensures { result ≡ self.number }
     {

@@ -17,6 +17,7 @@ use board::{Board, piece};
 /// What a cell of the border holds.
 const BORDER: u8 = 255;
 
+// Directions are numbers: they are counted through, index these steps, and are even along ranks and files.
 /// One step on the cells in each direction, raised by 11: East, NorthWest, North, NorthEast, and then their opposites.
 const STEPS: [u8; 8] = [12, 20, 21, 22, 10, 2, 1, 0];
 

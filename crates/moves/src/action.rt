@@ -60,6 +60,7 @@ fn numbered(number: u16) -> Option<Option<Promotion>>
 }
 
 impl Move {
+    // Methods and not From and TryFrom: the number is an order among moves, and of a number that is none there is no more to say.
     /// The number of the move: from + 64 × to + 4096 × what it promotes to.
     pub fn number(self) -> u16
         ensures { result ≡ move_number (plain self) }
