@@ -17,16 +17,16 @@ places() {
 }
 
 places '1 numbers for what an enum, an Option or a Result says' \
-    'Option<Breach>|Option<Option<|promoted\(|piece_numbered\(|return 255|^ *255$|direction: (u8|usize)|\bd: usize|row: u8|\{ 0 \} else|else \{ 0 \}|None => (None|false|true|Err)|Some\(_?[a-z]*\) => (true|Err|Ok)|Err\(_\) =>|number < [234]0 '
+    'Option<Breach>|Option<Option<|promoted\(|number_of\(|piece_numbered\(|return 255|^ *255$|=> 255|map_or\(255|^    None,$|direction: (u8|usize)|\bd: usize|row: u8|\{ 0 \} else|else \{ 0 \}|None => (None|false|true|Err)|Some\(_?[a-z]*\) => (true|Err|Ok)|Err\(_\) =>|number < [234]0 '
 places '2 functions that differ in a constant, a type or a callee' \
-    'fn (pawns?|knights?|kings?|lift|place|castles_(short|long)|near|far|without_(check|equals|capture)|(rank|file)_mark|code_on|one_ahead|king_square|(king|queen)side_rook|(first|end)_rank|crossing_rank|(side|rights|en_passant)(_field)?|checkmate|stalemate|moves_rook_too|steps_twice)[(<]|struct (Line|Digits)'
+    'fn (pawns?|knights?|kings?|lift|place|castles_(short|long)|near|far|without_(check|equals|capture)|(rank|file)_mark|code_on|one_ahead|king_square|(king|queen)side_rook|(first|end)_rank|crossing_rank|(side|rights|en_passant)(_field)?|square|attack(s|ed)|checkmate|stalemate|moves_rook_too|steps_twice)[(<]|struct (Line|Digits)'
 places '3 loops' '^\s*(for|while|loop)\b'
 places '4 conversions by hand, and types with no equality' \
-    'derive\((Clone, Copy|Drop)\)|fn (from_letter|letter|code|promoted|promotion_numbered|promotion|numbered|number|number_of|side_letter|turn|is_digit|is_gap|gap)\('
+    'derive\((Clone, Copy|Drop)\)| as (u8|u16|u64|usize)\b|\.number\(\) [!=]= [a-z.]*number\(\)|fn (from_letter|letter|code|promoted|promotion_numbered|promotion|numbered|number|number_of|side_letter|turn|is_digit|is_gap|gap)\('
 places '5 parameters that travel together' \
-    '\(text: &\[u8\], (at|from): usize|words: &(mut )?\[u64; 12\]|board: &(mut )?B, setup: &Setup|line: &mut Line|codes: &\[u8; 64\], (side|square|from)|from: usize, to: usize'
-places '6 buffers with a length or a place beside them' '^ +(len|from): usize,|\(text: &\[u8\], (at|from): usize|\[self\.len|text\[at\]'
-places '7 steps chosen by a name or a number' 'leapers\([0-9],|fn (without_(check|equals|capture)|(rank|file)_mark|lift|place)\('
+    '\(text: &\[u8\], (at|from): usize|words: &(mut )?\[u64; 12\]|board: &(mut )?B, setup: &Setup|line: &mut Line|codes: &\[u8; 64\], (side|square|from)|from: usize, to: usize|setup: &Setup, m: Move|(from|low): Square, (to|high): Square'
+places '6 buffers with a length or a place beside them' '^ +(len|from): usize,|let mut line = \[0; 124\]|\(text: &\[u8\], (at|from): usize|\[self\.len|text\[at\]'
+places '7 steps chosen by a name or a number' 'leap(er)?s\([0-9],|fn (without_(check|equals|capture)|(rank|file)_mark|lift|place)\('
 
 echo "5 facts required by three functions or more: $(grep -rhoE 'requires( [a-z_]+)? \{.*\}' crates/*/src --include='*.rt' |
     sed -E 's/requires [a-z_]+ /requires /' | sort | uniq -c | awk '$1 >= 3 { n += $1 } END { print n + 0 }')"

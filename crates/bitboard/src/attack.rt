@@ -56,7 +56,7 @@ impl Bitboard {
         })
     }
 
-    /// Whether a side attacks a square.
+    /// Whether a side attacks a square. The mailbox has the same words: a trait over both would stand above the trait whose call this answers.
     pub(crate) fn attacks(&self, by: Side, square: Square) -> bool
         ensures { result ≡ attacks by (codes_of self.now.words) square.number }
     {

@@ -42,6 +42,7 @@ impl Board for Bitboard {
         self.words = words;
     }
 
+    // 255 and not None, here and in `put`: a board's calls answer plain numbers.
     fn look(&self, square: u8) -> u8 {
         Square::new(square).map_or(255, |square| self.holder(square))
     }

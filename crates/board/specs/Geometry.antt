@@ -1,5 +1,5 @@
 -- Squares, and how one lies from another.
-use Rattle.std.specs.Prelude.{ℕ, zero, suc, ◌+◌, ◌/◌, ◌%◌, Bool, ◌&&◌, ◌||◌, ◌==◌, nat_lt}
+use Rattle.std.specs.Prelude.{ℕ, zero, suc, ◌+◌, ◌-◌, ◌*◌, ◌/◌, ◌%◌, Bool, cond, ◌&&◌, ◌||◌, Some, None, Option, ◌==◌, nat_le, nat_lt}
 
 -- files a to h and ranks 1 to 8, both counted from 0
 abbrev pub file : ℕ → ℕ
@@ -7,6 +7,10 @@ file s = s % 8
 
 abbrev pub rank : ℕ → ℕ
 rank s = s / 8
+
+-- the square that a file's letter, a to h, and a rank's digit, 1 to 8, name
+abbrev pub square_named : ℕ → ℕ → Option ℕ
+square_named f r = cond (nat_le 97 f && nat_le f 104 && nat_le 49 r && nat_le r 56) (Some (8 * (r - 49) + (f - 97))) None
 
 pub data Direction : Type 0 where
   East NorthWest North NorthEast West SouthEast South SouthWest : Direction

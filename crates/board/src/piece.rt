@@ -52,7 +52,11 @@ pub fn letter(code: u8) -> u8
     ensures { result ≡ lettered code }
 {
     // 0 for no letter and not an Option: this call answers every number, and a board's codes all have a letter.
-    if code > 12 { 0 } else { LETTERS[code as usize] }
+    if code > 12 {
+        0
+    } else {
+        LETTERS[usize::from(code)]
+    }
 }
 
 /// The code of the piece that a letter stands for, or none.

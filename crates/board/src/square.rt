@@ -1,7 +1,7 @@
 //! A square of the board.
 ghost use Rattle.std.specs.Prelude.{◌≡◌, ◌<◌, if◌then◌else◌, Some, None, nat_lt};
 ghost use Rattle.std.specs.Option.{option_map};
-ghost use Rattle.board.specs.Geometry.{file as file_of, rank as rank_of};
+ghost use Rattle.board.specs.Geometry.{file as file_of, rank as rank_of, square_named};
 
 /// A square's number, 8 × (rank − 1) + file, which is below 64.
 #[derive(Clone, Copy, PartialEq, Eq, Debug)]
@@ -24,7 +24,7 @@ impl Square {
     pub const H8: Square = Square { number: 63 };
 
     /// The square with a number, or none above 63.
-    // Not TryFrom: there is no more to say of a number that is none, and callers go on with `?` in an Option.
+    // Not then_some, which would make the square first. Not TryFrom: there is no more to say of a number that is none, and callers go on with `?` in an Option.
     pub fn new(number: u8) -> Option<Square>
         ensures { option_map (λ s. s.number) result ≡ (if nat_lt number 64 then Some number else None) }
     {
@@ -32,6 +32,16 @@ impl Square {
             Some(Square { number })
         } else {
             None
+        }
+    }
+
+    /// The square with a file's letter and a rank's digit, as a1, if they are one.
+    pub fn named(file: u8, rank: u8) -> Option<Square>
+        ensures { option_map (λ s. s.number) result ≡ square_named file rank }
+    {
+        match (file, rank) {
+            (b'a'..=b'h', b'1'..=b'8') => Square::new(8 * (rank - b'1') + (file - b'a')),
+            _ => None,
         }
     }
 

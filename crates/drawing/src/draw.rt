@@ -12,7 +12,7 @@ use laws::position::Position;
 use notation::fen;
 use std::alloc::AllocError;
 
-// A rank, counted from 0, behind its number.
+// A rank, counted from 0, behind its number: by that, since its digit is drawn too.
 fn rank(out: &mut Vec<u8>, codes: &[u8; 64], rank: u8) -> Result<(), AllocError>
     requires { rank < 8 }
     ensures { OnOk result (out.new.items ≡ out.old.items ++ rank_drawn codes.now rank) }
@@ -51,7 +51,7 @@ fn turn(side: Side, check: bool) -> &'static [u8]
 fn fen_line(out: &mut Vec<u8>, position: &Position) -> Result<(), AllocError>
     ensures { OnOk result (out.new.items ≡ out.old.items ++ fen_text (position_parts position.now)) }
 {
-    // The longest FEN fits, so the write does not fail.
+    // An array and a length, as `fen::write` has them. The longest FEN fits, so the write does not fail.
     let mut line = [0; 124];
     let length = fen::write(position, &mut line).unwrap();
     out.extend_from_slice(&line[..length])

@@ -91,11 +91,11 @@ unfoldable pub occurrences : Game → ℕ
 occurrences g = times (present g) (positions g.start (line_moves g.items))
 
 -- a draw by itself from five occurrences or a clock of 150 on, at a claim from three or 100 on; none at mate
-abbrev pub draw_ruling : Bool → ℕ → ℕ → Ruling
+abbrev pub draw_ruling : Bool → ℕ → ℕ → Option Ruling
 draw_ruling mate clock times =
-    cond mate ruling.None
-    (cond (nat_le 5 times || nat_le 150 clock) ruling.Automatic
-    (cond (nat_le 3 times || nat_le 100 clock) ruling.Claimable ruling.None))
+    cond mate None
+    (cond (nat_le 5 times || nat_le 150 clock) (Some ruling.Automatic)
+    (cond (nat_le 3 times || nat_le 100 clock) (Some ruling.Claimable) None))
 
 unfoldable pub standing : Game → Standing
 standing g =

@@ -1,14 +1,14 @@
 //! How a game stands.
 
-/// Whether a game is drawn by repetition or by the fifty moves: not, at a player's claim, or by itself.
+/// How a game is drawn by repetition or by the fifty moves: at a player's claim, or by itself.
 #[derive(Clone, Copy, PartialEq, Eq, Debug)]
 pub enum Ruling {
-    None,
     Claimable,
     Automatic,
 }
 
 /// How a game stands at the present position.
+// Three flags, as they are asked for: a mated side is in check too.
 #[derive(Clone, Copy, PartialEq, Eq, Debug)]
 pub struct Standing {
     /// The side to move is in check.
@@ -21,6 +21,6 @@ pub struct Standing {
     pub clock: u16,
     /// How often the position occurred along the moves from the start to it, this time counted.
     pub occurrences: u16,
-    /// Whether the game is drawn.
-    pub ruling: Ruling,
+    /// How the game is drawn, if it is.
+    pub ruling: Option<Ruling>,
 }

@@ -2,7 +2,7 @@
 ghost use Rattle.std.specs.Prelude.{◌≡◌, ◌≤◌, true, false, MatchResult, Some, slice_index};
 ghost use Rattle.std.specs.Option.{option_map};
 ghost use Rattle.board.specs.Attack.{in_check};
-ghost use Rattle.rules.specs.Lawful.{is_board, count as counted, one_king_each, is_pawn as pawn, edges_free, right_stands, side_rights_stand, rights_stand, ahead as one_ahead, en_passant_stands, counters_stand};
+ghost use Rattle.rules.specs.Lawful.{is_board, count as counted, one_king_each, is_pawn as pawn, edges_free, right_stands, side_rights_stand, rights_stand, en_passant_stands, counters_stand};
 ghost use Rattle.rules.specs.Side.{rights_of};
 ghost use Rattle.laws.specs.Setup.{parts, square_number};
 ghost use Rattle.laws.specs.Judged.{obeyed};
@@ -15,7 +15,7 @@ use board::piece::{Kind, code};
 use board::side::Side;
 use board::square::Square;
 use rules::breach::Breach;
-use rules::home::{Home, ahead};
+use rules::home::Home;
 
 // Whether a code is that of a pawn.
 fn is_pawn(found: u8) -> bool
@@ -101,16 +101,6 @@ impl Setup {
         self.side_rights_stand(Side::White) && self.side_rights_stand(Side::Black)
     }
 
-    // The code one rank ahead of a side's man on a square, 0 off the board.
-    fn code_ahead(&self, side: Side, square: Square) -> u8
-        ensures { result ≡ slice_index self.now.codes (one_ahead side square.number) }
-    {
-        self.codes
-            .get(ahead(side, square.number()))
-            .copied()
-            .unwrap_or(0)
-    }
-
     // Whether a pawn of the side not to move has just gone over a square.
     #[tactic(auto, unfolding(rules::specs::Lawful::en_passant_stands))]
     fn just_crossed(&self, square: Square) -> bool
@@ -140,8 +130,8 @@ impl Setup {
         self.clock <= 9999 && self.number >= 1 && self.number <= 9999
     }
 
-    #[tactic(auto, unfolding(rules::specs::Lawful::broken))]
     /// The first law that the parts break, if they break one. The board, which is asked for attacks, is left as it was.
+    #[tactic(auto, unfolding(rules::specs::Lawful::broken))]
     pub(crate) fn obey<B: Board>(&self, board: &mut B) -> Result<(), Breach>
         ensures answer { result ≡ obeyed (parts self.now) }
         ensures list { B.codes board.new ≡ B.codes board.old }

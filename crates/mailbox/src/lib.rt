@@ -136,7 +136,7 @@ impl Mailbox {
         (0..8).any(|direction| self.line(by, direction, square))
     }
 
-    /// Whether a side attacks a square.
+    /// Whether a side attacks a square. The bitboard has the same words: a trait over both would stand above the trait whose call this answers.
     fn attacks(&self, by: Side, square: Square) -> bool
         ensures { result ≡ attacks by (codes_of self.now.cells) square.number }
     {
@@ -158,6 +158,7 @@ impl Board for Mailbox {
         self.cells = cleared();
     }
 
+    // 255 and not None, here and in `put`: a board's calls answer plain numbers.
     fn look(&self, square: u8) -> u8 {
         Square::new(square).map_or(255, |square| self.cells[cell(square)])
     }

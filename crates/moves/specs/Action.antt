@@ -26,10 +26,6 @@ promotion_number (Some Queen) = 5
 abbrev pub plain : Move → rules.Move
 plain m = record { from = m.from.number; to = m.to.number; promotion = promotion_number m.promotion }
 
--- a number is that of some promotion, or of none: it is no pawn's
-abbrev pub is_promotion_number : ℕ → Bool
-is_promotion_number n = nat_lt n 6 && not (n == 1)
-
 -- a number is that of some move: its promotion is no pawn
 abbrev pub is_move_number : ℕ → Bool
 is_move_number n = nat_lt n move_numbers && not (n / 4096 == 1)

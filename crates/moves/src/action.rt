@@ -1,8 +1,8 @@
 //! What a move is.
-ghost use Rattle.std.specs.Prelude.{◌≡◌, ◌≤◌, if◌then◌else◌, Some, None};
+ghost use Rattle.std.specs.Prelude.{◌≡◌, ◌≤◌, ◌&&◌, if◌then◌else◌, Some, None, nat_le};
 ghost use Rattle.std.specs.Option.{option_map};
 ghost use Rattle.rules.specs.Move.{move_number, numbered_move};
-ghost use Rattle.moves.specs.Action.{plain, promoted_kind, promotion_number, is_promotion_number, is_move_number};
+ghost use Rattle.moves.specs.Action.{plain, promoted_kind, promotion_number, is_move_number};
 
 use board::piece::Kind;
 use board::square::Square;
@@ -37,7 +37,7 @@ impl From<Promotion> for Kind {
     }
 }
 
-// The number of the kind that a pawn becomes, 0 for none.
+// The number of the kind that a pawn becomes, 0 for none: that digit of a move's number.
 fn number_of(promotion: Option<Promotion>) -> u8
     ensures number { result ≡ promotion_number promotion }
     ensures most { result ≤ 6 }
@@ -45,17 +45,18 @@ fn number_of(promotion: Option<Promotion>) -> u8
     promotion.map_or(0, |promotion| Kind::from(promotion).number())
 }
 
-// The promotion with a number, no promotion for 0. Not TryFrom, which no crate may give of an Option.
-fn numbered(number: u16) -> Option<Option<Promotion>>
-    ensures { option_map promotion_number result ≡ (if is_promotion_number number then Some number else None) }
-{
-    match number {
-        0 => Some(None),
-        2 => Some(Some(Promotion::Knight)),
-        3 => Some(Some(Promotion::Bishop)),
-        4 => Some(Some(Promotion::Rook)),
-        5 => Some(Some(Promotion::Queen)),
-        _ => None,
+impl Promotion {
+    // The promotion to the kind with a number. Not TryFrom: of a number that is none there is no more to say.
+    fn numbered(number: u16) -> Option<Promotion>
+        ensures { option_map (λ p. promotion_number (Some p)) result ≡ (if nat_le 2 number && nat_le number 5 then Some number else None) }
+    {
+        match number {
+            2 => Some(Promotion::Knight),
+            3 => Some(Promotion::Bishop),
+            4 => Some(Promotion::Rook),
+            5 => Some(Promotion::Queen),
+            _ => None,
+        }
     }
 }
 
@@ -77,7 +78,10 @@ impl Move {
     {
         let from = Square::new((number % 64) as u8)?;
         let to = Square::new((number / 64 % 64) as u8)?;
-        let promotion = numbered(number / 4096)?;
+        let promotion = match number / 4096 {
+            0 => None,
+            kind => Some(Promotion::numbered(kind)?),
+        };
         Some(Move {
             from,
             to,

@@ -24,9 +24,9 @@ impl<'b, 's, B: Board> Table<'b, 's, B> {
         let king = Home::of(self.setup.side).king.number();
         let (crossed, target, open) = match wing {
             Wing::Kingside => (king + 1, king + 2, true),
-            Wing::Queenside => (king - 1, king - 2, codes[king as usize - 3] == 0),
+            Wing::Queenside => (king - 1, king - 2, codes[usize::from(king) - 3] == 0),
         };
-        let free = open && codes[crossed as usize] == 0 && codes[target as usize] == 0;
+        let free = open && codes[usize::from(crossed)] == 0 && codes[usize::from(target)] == 0;
         right
             && free
             && !self.board.attacked(enemy, king)
@@ -41,7 +41,7 @@ impl<'b, 's, B: Board> Table<'b, 's, B> {
     {
         let side = self.setup.side;
         let king = Home::of(side).king;
-        if !self.setup.holds(side, Kind::King, m.from) || m.from.number() != king.number() {
+        if !self.setup.holds(side, Kind::King, m.from) || m.from != king {
             return false;
         }
         let rights = self.setup.rights.of(side);

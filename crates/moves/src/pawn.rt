@@ -6,7 +6,7 @@ ghost use Rattle.moves.specs.Action.{plain};
 
 use crate::action::Move;
 use crate::reach::pawn_reaches;
-use crate::squares::{code_on, is_crossed, is_own};
+use crate::squares::{is_crossed, is_own};
 use board::side::Side;
 use laws::setup::Setup;
 use rules::home::{Home, ahead};
@@ -20,7 +20,7 @@ pub(crate) fn advances(setup: &Setup, m: Move) -> bool
     let two = ahead(setup.side, one as u8);
     let to = m.to.index();
     let free = setup.code_on(m.to) == 0;
-    let crossed = code_on(&setup.codes, one) == 0;
+    let crossed = setup.code_ahead(setup.side, m.from) == 0;
     let home = m.from.rank() == Home::of(setup.side).pawn_rank;
     (to == one && free) || (home && to == two && crossed && free)
 }

@@ -37,19 +37,18 @@ fn go(codes: &mut [u8; 64], from: usize, to: usize, code: u8)
 
 // The rook goes to the square that the castling king crossed.
 #[tactic(auto, unfolding(rules::specs::After::rook_moved))]
-fn rook_goes(codes: &mut [u8; 64], side: Side, from: usize, to: usize)
-    requires { from < 64 }
-    ensures { codes.new ≡ rook_moved codes.old side from to }
+fn rook_goes(codes: &mut [u8; 64], side: Side, from: Square, to: Square)
+    ensures { codes.new ≡ rook_moved codes.old side from.number to.number }
 {
     let rook = code(side, Kind::Rook);
     let home = Home::of(side);
-    if from < to {
-        go(codes, home.kingside_rook.index(), from + 1, rook);
+    if from.number() < to.number() {
+        go(codes, home.kingside_rook.index(), from.index() + 1, rook);
     } else {
         go(
             codes,
             home.queenside_rook.index(),
-            from.saturating_sub(1),
+            from.index().saturating_sub(1),
             rook,
         );
     }
@@ -60,12 +59,10 @@ fn rook_goes(codes: &mut [u8; 64], side: Side, from: usize, to: usize)
 pub(crate) fn codes_after(setup: &Setup, m: Move) -> [u8; 64]
     ensures { result ≡ codes_next (parts setup.now) (plain m) }
 {
-    let from = m.from.index();
-    let to = m.to.index();
     let mut codes = setup.codes;
-    go(&mut codes, from, to, arriving(setup, m));
+    go(&mut codes, m.from.index(), m.to.index(), arriving(setup, m));
     if moves_rook_too(setup, m) {
-        rook_goes(&mut codes, setup.side, from, to);
+        rook_goes(&mut codes, setup.side, m.from, m.to);
     } else if takes_crossing(setup, m) {
         write(&mut codes, ahead(setup.side.other(), m.to.number()), 0);
     }

@@ -70,6 +70,7 @@ fn rising_open(codes: &[u8; 64], low: Square, high: Square) -> bool
     ensures { (l : Line) → On l low.number high.number → IsTrue result ↔ Free l codes.now low.number high.number }
 {
     let step = step_between(low, high);
+    // A loop: the library has no law of what a chain over step_by asks of its closure, which reads a square.
     for at in (low.index() + step..high.index()).step_by(step) {
         if codes[at] != 0 {
             return false;
@@ -100,8 +101,7 @@ fn slides_to(found: u8, side: Side, from: Square, to: Square) -> bool
     let rook = found == code(side, Kind::Rook);
     let bishop = found == code(side, Kind::Bishop);
     let straight = files == 0 || ranks == 0;
-    from.number() != to.number()
-        && (straight && (queen || rook) || files == ranks && (queen || bishop))
+    from != to && (straight && (queen || rook) || files == ranks && (queen || bishop))
 }
 
 // Whether the piece on a square is the side's to move and attacks another.

@@ -1,4 +1,5 @@
-//! What sort of move one is.
+//! What sort of move one is. A move and the parts of its position stay two arguments, here and in `play`: the public calls take them so, and a
+//! struct of both would be made at each call.
 ghost use Rattle.std.specs.Prelude.{◌≡◌};
 ghost use Rattle.rules.specs.Move.{is_pawn_move, is_castling, is_double_step, takes_en_passant, is_capture};
 ghost use Rattle.laws.specs.Setup.{parts};

@@ -51,7 +51,7 @@ fn redraw<B: Board>(board: &mut B, picture: &[u8; 64], squares: &[u8; 4])
     ensures { B.codes board.new ≡ picture.now }
 {
     for &square in squares {
-        board.put(square, code_on(picture, square as usize));
+        board.put(square, code_on(picture, usize::from(square)));
     }
 }
 
@@ -71,10 +71,11 @@ fn leaves_check<B: Board>(board: &mut B, setup: &Setup, m: Move) -> bool
 }
 
 // Whether the move with a number is worth a trial: an own piece moves, and only a pawn that comes to the last rank promotes.
+// For speed it reads the number, before a move is made of it.
 fn worth_trying(setup: &Setup, number: u16) -> bool
     ensures { result ≡ false → legal (parts setup.now) (numbered_move number) ≡ false }
 {
-    let found = code_on(&setup.codes, (number % 64) as usize);
+    let found = code_on(&setup.codes, usize::from(number % 64));
     if !is_own(setup.side, found) {
         return false;
     }
@@ -114,7 +115,7 @@ impl<'b, 's, B: Board> Table<'b, 's, B> {
             return None;
         }
         let m = Move::numbered(number)?;
-        if self.is_legal(m) { Some(m) } else { None }
+        self.is_legal(m).then_some(m)
     }
 
     // Whether there is a legal move.

@@ -29,7 +29,7 @@ fn letter(byte: u8) -> Option<Kind>
     }
 }
 
-// What a pawn becomes by the letter behind its target. Not TryFrom: there is no fault to say of another byte.
+// What a pawn becomes by the letter behind its target: four of the five letters, and so apart from `letter` and its types.
 fn promotion(byte: u8) -> Option<Promotion>
     ensures { option_map (λ p. promotion_number (Some p)) result ≡ (if is_promotion byte then Some (letter_kind byte) else None) }
 {
@@ -38,16 +38,6 @@ fn promotion(byte: u8) -> Option<Promotion>
         b'B' => Some(Promotion::Bishop),
         b'R' => Some(Promotion::Rook),
         b'Q' => Some(Promotion::Queen),
-        _ => None,
-    }
-}
-
-// The square of a file and a rank.
-fn square(file: u8, rank: u8) -> Option<Square>
-    ensures { option_map (λ s. s.number) result ≡ (if names_rank rank && names_file file then Some (8 * (rank - 49) + (file - 97)) else None) }
-{
-    match (file, rank) {
-        (b'a'..=b'h', b'1'..=b'8') => Square::new(8 * (rank - b'1') + (file - b'a')),
         _ => None,
     }
 }
@@ -109,7 +99,7 @@ fn target(text: &[u8], promotion: Option<Promotion>) -> Option<PieceText>
 {
     let (rank, before_rank) = text.split_last()?;
     let (file, before_file) = before_rank.split_last()?;
-    let to = square(*file, *rank)?;
+    let to = Square::named(*file, *rank)?;
     origin(before_file, to, promotion)
 }
 

@@ -7,6 +7,7 @@ ghost use Rattle.notation.specs.Reader.{read_as, rest_of};
 fn value(text: &[u8]) -> (u16, &[u8])
     ensures { (result.0, result.1.now) ≡ read_digits 0 text.now }
 {
+    // A loop: a chain over the digits and a cut behind them would go over them twice.
     let mut sum: u16 = 0;
     let mut rest = text;
     while let [digit @ b'0'..=b'9', behind @ ..] = rest {

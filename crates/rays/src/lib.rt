@@ -21,7 +21,7 @@ fn entry(table: &[u64], row: u8, square: u8) -> u64
     requires { 64 * row + square < length table.now }
     ensures { result ≡ entry_of table.now row square }
 {
-    table[64 * row as usize + square as usize]
+    table[64 * usize::from(row) + usize::from(square)]
 }
 
 /// The squares beyond a square in a direction; none for a direction above 7 or a square above 63.

@@ -12,6 +12,7 @@ use Rattle.rules.specs.declared.rights.Castling.{Castling}
 use Rattle.rules.specs.Parts.{Parts}
 use Rattle.rules.specs.Lawful.{king_home, ahead, lawful}
 use Rattle.rules.specs.Move.{Move, numbered_move, mover, is_pawn_move, is_castling, is_square}
+use Rattle.rules.specs.Side.{rights_of}
 use Rattle.rules.specs.After.{coloured, codes_after, after}
 
 -- a piece of the side
@@ -61,7 +62,7 @@ castles_queenside codes side right =
     and_then (not (attacks (other side) codes k) && not (attacks (other side) codes (k - 1)) && not (attacks (other side) codes (k - 2)))
 
 abbrev pub own_rights : Parts → Castling
-own_rights p = elim p.side [ White ↦ p.rights.white | Black ↦ p.rights.black ]
+own_rights p = rights_of p.rights p.side
 
 unfoldable pub castles : Parts → Move → Bool
 castles p m =

@@ -56,12 +56,13 @@ impl Home {
 }
 
 /// The number of the square one rank ahead of a side's man: above 63 beyond rank 8, and 0 beyond rank 1.
+// A number and not an Option of a square: the rules are said of numbers, and look at what stands there, which off the board is nothing.
 pub fn ahead(side: Side, square: u8) -> usize
     ensures square { result ≡ one_ahead side square }
     ensures most { result ≤ square + 8 }
 {
     match side {
-        Side::White => square as usize + 8,
-        Side::Black => square.saturating_sub(8) as usize,
+        Side::White => usize::from(square) + 8,
+        Side::Black => usize::from(square.saturating_sub(8)),
     }
 }

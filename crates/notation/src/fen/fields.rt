@@ -93,10 +93,7 @@ pub(crate) fn en_passant(text: &[u8]) -> Option<(Option<Square>, &[u8])>
 {
     match text {
         [b'-', rest @ ..] => Some((None, rest)),
-        [file @ b'a'..=b'h', rank @ b'1'..=b'8', rest @ ..] => {
-            let square = Square::new(8 * (rank - b'1') + (file - b'a'))?;
-            Some((Some(square), rest))
-        }
+        [file, rank, rest @ ..] => Some((Some(Square::named(*file, *rank)?), rest)),
         _ => None,
     }
 }
