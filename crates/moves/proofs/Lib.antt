@@ -1,6 +1,6 @@
 mod ChangeLaws
-mod ActionLaws
-mod TrialLaws
+pub mod ActionLaws
+pub mod TrialLaws
 mod PlayLaws
 mod PathLaws
 mod ReachLaws

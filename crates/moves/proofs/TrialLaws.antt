@@ -3,7 +3,7 @@ use Rattle.std.proofs.Common.{◌≡◌, ℕ, ◌+◌, ◌/◌, ◌%◌, ◌<◌
 use Rattle.std.specs.List.{range_with_len}
 use Rattle.std.specs.Option.{option_map, is_some}
 use Rattle.std.proofs.lemmas.List.FromFn.{map-range_with_len_more}
-use Rattle.std.proofs.lemmas.List.{map-append}
+use Rattle.std.proofs.lemmas.List.{map-append, append-nil}
 use Rattle.std.proofs.lemmas.Bool.{eqb-true, lt-ltb, ne_eqb, and_from, both_ways, cases_eq, cond-true, cond-false}
 use Rattle.board.specs.declared.piece.Kind.TheVariants.{Pawn}
 use Rattle.board.specs.Piece.{code}
@@ -74,7 +74,7 @@ found_none true m e = absurd (let z : ◌≡◌ {A = ℕ} 0 1 = cc in omega arit
 found_none false m e = refl
 
 -- the legal moves with a number below a bound
-keep_append : (f : Move → Bool) (xs ys : List Move) → keep f (xs ++ ys) ≡ keep f xs ++ keep f ys
+pub keep_append : (f : Move → Bool) (xs ys : List Move) → keep f (xs ++ ys) ≡ keep f xs ++ keep f ys
 unfolding keep
 keep_append f [] ys = refl
 keep_append f (x ∷ xs) ys = step (f x) (keep_append f xs ys)
@@ -84,17 +84,13 @@ keep_append f (x ∷ xs) ys = step (f x) (keep_append f xs ys)
     step true e = ap (λ l. x ∷ l) e
     step false e = e
 
-keep_one : (f : Move → Bool) (x : Move) → f x ≡ true → keep f (x ∷ []) ≡ x ∷ []
+pub keep_one : (f : Move → Bool) (x : Move) → f x ≡ true → keep f (x ∷ []) ≡ x ∷ []
 unfolding keep
 keep_one f x e = rw (e, keep)
 
-keep_none : (f : Move → Bool) (x : Move) → f x ≡ false → keep f (x ∷ []) ≡ []
+pub keep_none : (f : Move → Bool) (x : Move) → f x ≡ false → keep f (x ∷ []) ≡ []
 unfolding keep
 keep_none f x e = rw (e, keep)
-
-append_none : (xs : List Move) → xs ++ [] ≡ xs
-append_none [] = refl
-append_none (x ∷ xs) = ap (λ l. x ∷ l) (append_none xs)
 
 abbrev pub legal_below : Parts → ℕ → List Move
 legal_below p n = keep (legal p) (map numbered_move (range_with_len 0 n))
@@ -106,7 +102,7 @@ pub one_more : (p : Parts) (n : ℕ) → legal p (numbered_move n) ≡ true → 
 one_more p n e = below_more p n ∙ ap (λ l. legal_below p n ++ l) (keep_one (legal p) (numbered_move n) e)
 
 pub none_more : (p : Parts) (n : ℕ) → legal p (numbered_move n) ≡ false → legal_below p (n + 1) ≡ legal_below p n
-none_more p n e = below_more p n ∙ ap (λ l. legal_below p n ++ l) (keep_none (legal p) (numbered_move n) e) ∙ append_none (legal_below p n)
+none_more p n e = below_more p n ∙ ap (λ l. legal_below p n ++ l) (keep_none (legal p) (numbered_move n) e) ∙ append-nil (legal_below p n)
 
 pub all_below : (p : Parts) (n : ℕ) → n ≡ move_numbers → legal_below p n ≡ legal_moves p
 unfolding legal_moves

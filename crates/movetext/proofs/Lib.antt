@@ -1,2 +1,3 @@
 pub mod Castling
 pub mod Reading
+mod Finding

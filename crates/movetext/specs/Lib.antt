@@ -1,3 +1,4 @@
 pub mod Said
 pub mod Castling
 pub mod Marks
+pub mod Found

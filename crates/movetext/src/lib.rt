@@ -1,5 +1,6 @@
 //! Move text, read.
 #![tactic(auto)]
 
+pub mod find;
 pub mod read;
 pub mod text;
