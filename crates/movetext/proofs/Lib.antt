@@ -1,3 +1,4 @@
 pub mod Castling
 pub mod Reading
 mod Finding
+mod Writing

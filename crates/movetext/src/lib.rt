@@ -4,3 +4,4 @@
 pub mod find;
 pub mod read;
 pub mod text;
+pub mod write;
