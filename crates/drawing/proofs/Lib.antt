@@ -1,2 +1,4 @@
 mod Chains
 mod Lines
+mod Listed
+mod Spaces

@@ -1,5 +1,5 @@
 -- What is drawn of positions, and of what is none, line by line.
-use Rattle.std.specs.Prelude.{ℕ, zero, suc, ◌+◌, ◌-◌, ◌*◌, Bool, true, false, cond, List, [], ◌∷◌, ◌++◌, length, Ok, Err, codes as bytes, ◌==◌, slice_index}
+use Rattle.std.specs.Prelude.{ℕ, zero, suc, ◌+◌, ◌-◌, ◌*◌, Bool, true, false, cond, List, [], ◌∷◌, ◌++◌, map, length, Ok, Err, codes as bytes, ◌==◌, slice_index}
 use Rattle.board.specs.declared.side.Side.{Side}
 use Rattle.board.specs.declared.side.Side.TheVariants.{White, Black}
 use Rattle.board.specs.Piece.{letter}
@@ -7,6 +7,8 @@ use Rattle.board.specs.Attack.{in_check}
 use Rattle.faults.specs.declared.SheetFault.{SheetFault}
 use Rattle.faults.specs.Numbers.{sheet_number, layer_of}
 use Rattle.rules.specs.Parts.{Parts}
+use Rattle.rules.specs.Legal.{legal_moves, checkmate, stalemate}
+use Rattle.san.specs.Written.{san}
 use Rattle.notation.specs.Decimal.{digits}
 use Rattle.notation.specs.Fen.{fen}
 use Rattle.notation.specs.Answers.{start_answer}
@@ -40,11 +42,27 @@ turn_drawn side check = side_name side ++ (bytes " to move" ++ (cond check (byte
 abbrev pub files_drawn : List ℕ
 files_drawn = bytes "  a b c d e f g h" ++ (line_feed ∷ [])
 
--- a position: the ranks, the letters of the files, the turn, its FEN and an empty line
-unfoldable pub position_drawn : Parts → List ℕ
-position_drawn p =
-    ranks_drawn p.codes 8 ++ (files_drawn ++ (turn_drawn p.side (in_check p.side p.codes)
-    ++ (fen p ++ (line_feed ∷ line_feed ∷ []))))
+-- a space before each text
+unfoldable pub spaced : List (List ℕ) → List ℕ
+spaced [] = []
+spaced (t ∷ ts) = 32 ∷ (t ++ spaced ts)
+
+-- single spaces between texts
+abbrev pub joined : List (List ℕ) → List ℕ
+joined [] = []
+joined (t ∷ ts) = t ++ spaced ts
+
+-- a position itself: the ranks, the letters of the files, the turn, and its FEN
+unfoldable pub place_drawn : Parts → List ℕ
+place_drawn p = ranks_drawn p.codes 8 ++ (files_drawn ++ (turn_drawn p.side (in_check p.side p.codes) ++ (fen p ++ (line_feed ∷ []))))
+
+-- how play goes on: that the side to move is mated or stalemated, or else its legal moves in SAN
+unfoldable pub play_drawn : Parts → List ℕ
+play_drawn p = cond (checkmate p) (bytes "checkmate") (cond (stalemate p) (bytes "stalemate") (joined (map (san p) (legal_moves p))))
+
+-- a position, how play goes on, and an empty line
+abbrev pub position_drawn : Parts → List ℕ
+position_drawn p = place_drawn p ++ (play_drawn p ++ (line_feed ∷ line_feed ∷ []))
 
 -- a fault: its number and layer, the byte of its line in the input, and the line's number; and an empty line
 unfoldable pub fault_drawn : SheetFault → ℕ → ℕ → List ℕ

@@ -2,8 +2,9 @@
 ghost use Rattle.std.specs.Prelude.{◌≡◌, ◌+◌, ◌-◌, ◌<◌, ◌++◌, OnOk};
 ghost use Rattle.laws.specs.Position.{position_parts};
 ghost use Rattle.notation.specs.Fen.{fen as fen_text};
-ghost use Rattle.drawing.specs.Drawing.{rank_drawn, ranks_drawn, turn_drawn, position_drawn, fault_drawn};
+ghost use Rattle.drawing.specs.Drawing.{rank_drawn, ranks_drawn, turn_drawn, place_drawn, position_drawn, fault_drawn};
 
+use crate::play::play;
 use board::check::in_check;
 use board::side::Side;
 use board::{Board, piece};
@@ -57,13 +58,9 @@ fn fen_line(out: &mut Vec<u8>, position: &Position) -> Result<(), AllocError>
     out.extend_from_slice(&line[..length])
 }
 
-/// A position, with the board left to show it.
-pub(crate) fn position<B: Board>(
-    out: &mut Vec<u8>,
-    board: &mut B,
-    position: &Position,
-) -> Result<(), AllocError>
-    ensures { OnOk result (out.new.items ≡ out.old.items ++ position_drawn (position_parts position.now)) }
+// A position itself, with the board left to show it.
+fn place<B: Board>(out: &mut Vec<u8>, board: &mut B, position: &Position) -> Result<(), AllocError>
+    ensures { OnOk result (out.new.items ≡ out.old.items ++ place_drawn (position_parts position.now)) }
 {
     position.show(board);
     let side = position.setup.side;
@@ -71,6 +68,19 @@ pub(crate) fn position<B: Board>(
     out.extend_from_slice(b"  a b c d e f g h\n")?;
     out.extend_from_slice(turn(side, in_check(board, side)))?;
     fen_line(out, position)?;
+    out.extend_from_slice(b"\n")
+}
+
+/// A position and how play goes on.
+pub(crate) fn position<B: Board>(
+    out: &mut Vec<u8>,
+    board: &mut B,
+    position: &Position,
+) -> Result<(), AllocError>
+    ensures { OnOk result (out.new.items ≡ out.old.items ++ position_drawn (position_parts position.now)) }
+{
+    place(out, board, position)?;
+    play(out, board, position)?;
     out.extend_from_slice(b"\n\n")
 }
 

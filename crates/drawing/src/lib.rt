@@ -10,6 +10,7 @@ use notation::fen;
 use std::alloc::{AllocError, Global};
 
 mod draw;
+mod play;
 
 // Draws what a line says, which starts at a byte of the input and has a number. A struct for these two would serve the fault alone.
 fn draw_line<B: Board>(

@@ -4,3 +4,4 @@ pub mod TrialLaws
 mod PlayLaws
 mod PathLaws
 mod ReachLaws
+pub mod Listed

@@ -1,16 +1,14 @@
 -- Leaves counted move by move.
 use Rattle.std.proofs.Common.{◌≡◌, ℕ, ◌+◌, ◌<◌, Bool, true, false, if◌then◌else◌, List, [], ◌∷◌, map, length, slice_index_or, Some, None, sum_by, Option, refl, ◌∙◌, subst, add-one, arith}
-use Rattle.std.specs.List.{All}
-use Rattle.std.proofs.Math.ListN.{get_or-map}
-use Rattle.std.proofs.lemmas.List.{length-map, take_all}
-use Rattle.std.proofs.lemmas.List.Elements.{All-nil, All-cons, All-same}
+use Rattle.std.proofs.lemmas.List.{take_all}
 use Rattle.std.proofs.lemmas.List.Sums.{sum_by-cons, sum_by_more}
 use Rattle.rules.specs.Parts.{Parts}
 use Rattle.rules.specs.Move as rules
 use Rattle.rules.specs.After.{after}
-use Rattle.rules.specs.Legal.{keep, legal, legal_moves}
+use Rattle.rules.specs.Legal.{legal, legal_moves}
 use Rattle.moves.specs.declared.action.Move.{Move}
 use Rattle.moves.specs.Action.{plain}
+use Rattle.moves.proofs.Listed.{listed_legal}
 use Rattle.tree.specs.Leaves.{leaf_count}
 
 -- the leaves behind a move
@@ -37,22 +35,6 @@ leaf_count-one p ms e = leaf_count-suc p 0 ms e ∙ ones ms
     ones : (ms : List Move) → sum_by (leaves_by p 0) ms ≡ length ms
     ones [] = refl
     ones (m ∷ ms) = let z = leaf_count-zero (after p (plain m)) in let s = sum_by-cons (leaves_by p 0) m ms in let e = ones ms in omega arith
-
--- what is kept passes
-kept_passes : (f : rules.Move → Bool) (xs : List rules.Move) → All (λ x. f x ≡ true) (keep f xs)
-unfolding keep
-kept_passes f [] = All-nil (λ x. f x ≡ true)
-kept_passes f (x ∷ xs) = one (f x) refl (kept_passes f xs)
-  where
-    one : (b : Bool) → f x ≡ b → All (λ x. f x ≡ true) (keep f xs) → All (λ x. f x ≡ true) (elim b [ true ↦ x ∷ keep f xs | false ↦ keep f xs ])
-    one true e h = All-cons (λ x. f x ≡ true) x (keep f xs) e h
-    one false e h = h
-
-pub listed_legal : (p : Parts) (ms : List Move) → map plain ms ≡ legal_moves p → All (λ m. legal p (plain m) ≡ true) ms
-unfolding legal_moves
-listed_legal p ms e i d h =
-    let l = length-map ms plain in
-    subst (λ m. legal p m ≡ true) (get_or-map plain ms i d) (All-same (λ m. legal p m ≡ true) _ _ e (kept_passes (legal p) _) i (plain d) (omega arith))
 
 -- what `after` gives at a move of the list
 pub listed_after : (p : Parts) (ms : List Move) → map plain ms ≡ legal_moves p → (i : ℕ) → i < length ms → (m : Move) → m ≡ slice_index_or ms i m

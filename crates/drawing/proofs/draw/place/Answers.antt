@@ -1,12 +1,12 @@
 use Rattle.std.proofs.Common.{◌≡◌, vec_items}
 use Rattle.board.specs.Attack.{in_check}
 use Rattle.laws.specs.Position.{position_parts}
-use Rattle.drawing.specs.Drawing.{position_drawn, turn_drawn}
+use Rattle.drawing.specs.Drawing.{place_drawn, turn_drawn}
 use Rattle.drawing.proofs.Chains.{five}
-use Rattle.drawing.proofs.draw.position.Goals as goal
+use Rattle.drawing.proofs.draw.place.Goals as goal
 
 pub returns : goal.returns
-unfolding position_drawn
+unfolding place_drawn
 returns g c =
     let p = position_parts c.args.position.now in
     let turn : c.turn.result.now ≡ turn_drawn p.side (in_check p.side p.codes) = cc in
