@@ -4,6 +4,7 @@
 # the start and reading the position, falls out of the difference.
 # Proves and builds the program bench_movetext first, where that is not done yet.
 set -euo pipefail
+shopt -s inherit_errexit
 times=${1:-200}
 top=$(cd "$(dirname "$0")/.." && pwd)
 crate=$top/crates/bench_movetext

@@ -2,6 +2,7 @@
 # perft.sh [RUNS]: legal play's leaves a second on each make of board, over the positions of the program perft: the best of RUNS runs, 5 if not given.
 # Proves and builds the program bench_nodes first, where that is not done yet.
 set -euo pipefail
+shopt -s inherit_errexit
 runs=${1:-5}
 top=$(cd "$(dirname "$0")/.." && pwd)
 crate=$top/crates/bench_nodes
