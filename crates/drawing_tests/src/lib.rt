@@ -3,14 +3,16 @@
 
 #[cfg(test)]
 mod tests {
+    use bitboard::Bitboard;
     use drawing::draw_input;
     use mailbox::Mailbox;
     use std::test::Fail;
 
-    // Whether an input is drawn so.
+    // Whether an input is drawn so, on both makes of board.
     fn draws(rt: &HostRuntime, input: &[u8], drawn: &[u8]) -> Result<bool, Fail> {
-        let out = draw_input(rt.alloc(), Mailbox::new(), input)?;
-        Ok(out.as_slice() == drawn)
+        let by_mailbox = draw_input(rt.alloc(), Mailbox::new(), input)?;
+        let by_bitboard = draw_input(rt.alloc(), Bitboard::new(), input)?;
+        Ok(by_mailbox.as_slice() == drawn && by_bitboard.as_slice() == drawn)
     }
 
     #[test]
@@ -53,7 +55,7 @@ mod tests {
     #[test]
     fn a_position(rt: HostRuntime) -> Result<(), Fail> {
         let drawn =
-            b"8 . . . . k . . .\n7 . . . . . . . .\n6 . . . . . . . .\n5 . . . . . . . .\n4 . . . . . . . .\n3 . . . . . . . .\n2 . . . . . . . .\n1 . . . . K . . r\n  a b c d e f g h\nWhite to move, in check\n4k3/8/8/8/8/8/8/4K2r w - - 0 1\n\n";
+            b"8 . . . . k . . .\n7 . . . . . . . .\n6 . . . . . . . .\n5 . . . . . . . .\n4 . . . . . . . .\n3 . . . . . . . .\n2 . . . . . . . .\n1 . . . . K . . r\n  a b c d e f g h\nWhite to move, in check\n4k3/8/8/8/8/8/8/4K2r w - - 0 1\nKd2 Ke2 Kf2\n\n";
         assert!(rt; draws(&rt, b"4k3/8/8/8/8/8/8/4K2r w - - 0 1", drawn)?);
         Ok(())
     }
