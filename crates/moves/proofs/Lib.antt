@@ -1,6 +1,7 @@
 mod ChangeLaws
 pub mod ActionLaws
 pub mod TrialLaws
+mod PromotionLaws
 mod PlayLaws
 mod PathLaws
 mod ReachLaws

@@ -39,7 +39,7 @@ module _ (p : Parts) (n x : ℕ) (ex : x ≡ get_or p.codes (n % 64) 0) where
   not_own e = not_passed _ (λ l.
       both_ways (of_side p.side x) e (ap (of_side p.side) ex ∙ (legal_parts p (numbered_move n) l).own))
 
-  promoting : 4096 ≤ n → legal p (numbered_move n) ≡ true → (is_pawn_move p (numbered_move n) ≡ true) × (promotes p.side (numbered_move n) ≡ true)
+  pub promoting : 4096 ≤ n → legal p (numbered_move n) ≡ true → (is_pawn_move p (numbered_move n) ≡ true) × (promotes p.side (numbered_move n) ≡ true)
   promoting h l =
       let q = legal_parts p (numbered_move n) l in
       ⊎_elim

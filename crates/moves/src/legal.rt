@@ -1,17 +1,26 @@
 //! Judging moves and positions. Each call first shows the position on the board, and leaves it there.
-ghost use Rattle.std.specs.Prelude.{◌≡◌, map, IfOk, if◌then◌else◌, Some, None};
+ghost use Rattle.std.specs.Prelude.{◌≡◌, ◌+◌, ◌*◌, ◌≤◌, map, IfOk, if◌then◌else◌, Some, None};
+ghost use Rattle.std.specs.List.{range_with_len};
 ghost use Rattle.std.specs.Option.{option_map};
+ghost use Rattle.board.specs.declared.piece.Kind.TheVariants.{Pawn};
+ghost use Rattle.board.specs.Below.{some_below};
+ghost use Rattle.board.specs.Piece.{other, holds};
+ghost use Rattle.rules.specs.Move.{numbered_move};
 ghost use Rattle.rules.specs.After.{codes_after, after as next};
-ghost use Rattle.rules.specs.Legal.{legal, legal_moves, can_move, checkmate as mated, stalemate as stalemated};
+ghost use Rattle.rules.specs.Legal.{pawn_home, keep, legal, legal_moves, can_move, checkmate as mated, stalemate as stalemated};
 ghost use Rattle.laws.specs.Position.{position_parts};
 ghost use Rattle.moves.specs.Action.{plain};
 
 use crate::action::Move;
 use crate::play::setup_after;
+use crate::squares::code_on;
 use crate::table::Table;
 use board::Board;
 use board::check::in_check;
+use board::piece::{Kind, code};
 use laws::position::Position;
+use laws::setup::Setup;
+use rules::home::Home;
 use std::alloc::{AllocError, Global};
 
 /// Whether a move is legal.
@@ -71,6 +80,27 @@ pub fn stalemate<B: Board>(board: &mut B, position: &Position) -> bool
     !in_check(board, setup.side) && !Table { board, setup }.can_move()
 }
 
+// Whether a pawn of the side to move stands before its last rank, where the other side's pawns start.
+fn may_promote(setup: &Setup) -> bool
+    ensures { result ≡ some_below 8 (λ f. holds setup.now.codes setup.now.side Pawn (8 * pawn_home (other setup.now.side) + f)) }
+{
+    let first = 8 * usize::from(Home::of(setup.side.other()).pawn_rank);
+    let pawn = code(setup.side, Kind::Pawn);
+    (0..8usize).any(|file| code_on(&setup.codes, first + file) == pawn)
+}
+
+// One more than the highest number to try: those from 4096 on are of moves that promote.
+fn numbers(position: &Position) -> u16
+    ensures most { result ≤ 24576 }
+    ensures all { keep (legal (position_parts position.now)) (map numbered_move (range_with_len 0 result)) ≡ legal_moves (position_parts position.now) }
+{
+    if may_promote(&position.setup) {
+        24576
+    } else {
+        4096
+    }
+}
+
 /// The legal moves, in ascending order of their numbers.
 pub fn legal_moves<B: Board>(
     heap: Global,
@@ -85,7 +115,7 @@ pub fn legal_moves<B: Board>(
     let mut table = Table { board, setup };
     let mut moves = Vec::new(heap);
     // A loop: the closure of a chain may not change the board that it tries moves on.
-    for number in 0..24576u16 {
+    for number in 0..numbers(position) {
         if let Some(m) = table.legal_numbered(number) {
             moves.push(m)?;
         }

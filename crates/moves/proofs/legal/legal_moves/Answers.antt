@@ -1,7 +1,7 @@
-use Rattle.std.proofs.Common.{map, vec_items, sym, ap, ◌∙◌, refl, arith}
+use Rattle.std.proofs.Common.{◌≡◌, map, vec_items, sym, ap, ◌∙◌, refl, arith}
 use Rattle.laws.specs.Position.{position_parts}
 use Rattle.moves.specs.Action.{plain}
-use Rattle.moves.proofs.TrialLaws.{none_below, turn_found, turn_none, all_below}
+use Rattle.moves.proofs.TrialLaws.{none_below, legal_below, turn_found, turn_none}
 use Rattle.moves.proofs.legal.legal_moves.Goals as goal
 use Rattle.moves.proofs.legal.legal_moves.Goals.{in-Some+in_ok-push, in_default}
 
@@ -25,4 +25,6 @@ loop-number-preserved g c = record {
 }
 
 pub returns-clause-answer : goal.returns-clause-answer
-returns-clause-answer g c = c.loop-number.invariant.moves ∙ all_below (position_parts c.args.position.now) c.loop-number.number (omega arith)
+returns-clause-answer g c =
+    let end : c.loop-number.number ≡ c.numbers-number-end.result = omega arith in
+    c.loop-number.invariant.moves ∙ ap (legal_below (position_parts c.args.position.now)) end ∙ c.numbers-number-end.ensures.all
