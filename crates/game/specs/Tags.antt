@@ -1,5 +1,6 @@
 -- The heading of a game: its tags and its start.
 use Rattle.std.specs.Prelude.{ℕ, Bool, true, false, cond, not, ◌&&◌, ◌||◌, List, [], ◌∷◌, length, get_or, replicate, Some, None, Ok, Err, codes as bytes, Option, ◌==◌, nat_le, nat_lt, slice_index_or, slice_set}
+use Rattle.std.specs.List.{list_all}
 use Rattle.board.specs.Below.{least_below}
 use Rattle.faults.specs.declared.NotationFault.TheVariants.{TagName, TagValue}
 use Rattle.faults.specs.declared.LawsFault.TheVariants.{InNotation}
@@ -11,24 +12,23 @@ use Rattle.notation.specs.Answers.{start_answer}
 use Rattle.game.specs.Record.{Game, Tag, roster, new_game, most_tags}
 use Rattle.game.specs.Results.{first, fault_of}
 
--- every byte passes
-abbrev pub every : (ℕ → Bool) → List ℕ → Bool
-every f [] = true
-every f (b ∷ t) = f b && every f t
-
 -- a letter, a digit or an underscore
 abbrev pub is_name_byte : ℕ → Bool
 is_name_byte b = (nat_le 65 b && nat_le b 90) || (nat_le 97 b && nat_le b 122) || (nat_le 48 b && nat_le b 57) || b == 95
 
 unfoldable pub is_name : List ℕ → Bool
-is_name n = nat_le 1 (length n) && nat_le (length n) 32 && every is_name_byte n
+is_name n = nat_le 1 (length n) && nat_le (length n) 32 && list_all is_name_byte n
 
 -- the tags that calls of their own set
 unfoldable pub is_reserved : List ℕ → Bool
 is_reserved n = same_bytes n (bytes "Result") || same_bytes n (bytes "SetUp") || same_bytes n (bytes "FEN")
 
+-- neither below 32 nor 127
+abbrev pub is_value_byte : ℕ → Bool
+is_value_byte b = nat_le 32 b && not (b == 127)
+
 unfoldable pub is_value : List ℕ → Bool
-is_value v = nat_le (length v) 200 && every (λ b. nat_le 32 b && not (b == 127)) v
+is_value v = nat_le (length v) 200 && list_all is_value_byte v
 
 -- the place of a name among the six
 unfoldable pub roster_place : List ℕ → Option ℕ

@@ -1,0 +1,4 @@
+//! The record of a game, as the calls make it.
+#![tactic(auto)]
+
+pub mod name;
