@@ -2,3 +2,4 @@
 #![tactic(auto)]
 
 pub mod name;
+pub mod word;
