@@ -1,5 +1,5 @@
 -- The codes that twelve words stand for, and what a write does to them.
-use Rattle.std.specs.Prelude.{◌≡◌, ℕ, zero, suc, ◌<◌, ◌≤◌, Bool, true, false, not, ◌&&◌, ◌||◌, ◌⊎◌, List, length, replicate, Some, None, Option, ◌==◌, ◌≢◌, bit_or, nat_eq, nat_le, slice_index, slice_set, fold, [], ◌∷◌}
+use Rattle.std.specs.Prelude.{◌≡◌, ℕ, zero, suc, ◌+◌, ◌<◌, ◌≤◌, Bool, true, false, not, ◌&&◌, ◌||◌, ◌⊎◌, List, length, replicate, Some, None, Option, ◌==◌, ◌≢◌, bit_or, nat_eq, nat_le, slice_index, slice_set, fold, [], ◌∷◌}
 use Rattle.std.specs.List.{list_any, AllWithin, HoldsAt}
 use Rattle.std.specs.Option.{MatchOption}
 use Rattle.std.proofs.Math.Bool.{or-false, or_assoc}
@@ -10,7 +10,7 @@ use Rattle.std.proofs.Common.{sym, subst, ◌∙◌, ⊎_elim, arith}
 use Rattle.std.proofs.Math.Logic.{inl, inr}
 use Rattle.std.proofs.lemmas.List.FromFn.{get_or-map-range_with_len, length-map-range_with_len}
 use Rattle.std.proofs.lemmas.List.{ext_get_or, length-set, get_or-set_same, get_or-set_other, get_or-replicate, get_or_past}
-use Rattle.std.proofs.lemmas.Bool.{cases_lt, cases_eq, cases_order, eq-eqb, ne_eqb, eqb-true, both_ways, false≢true}
+use Rattle.std.proofs.lemmas.Bool.{cases_lt, cases_eq, cases_order, eq-eqb, ne_eqb, eqb-true, both_ways, false≢true, or_left, or_right}
 use Rattle.board.specs.Below.{least_below}
 use Rattle.board.specs.Meaning.{empty_board, next_holding}
 use Rattle.board.proofs.BelowLaws.{least_found, least_none, least_some, least_passed, least_same, same_tests}
@@ -157,6 +157,18 @@ module _ (words mid after : List ℕ) (square old c : ℕ) (hs : square < 64) (h
 abbrev pub Covers : List ℕ → ℕ → ℕ → Type 0
 Covers words n all =
     (s : ℕ) → ((k : ℕ) → k < n → in_word words k s ≡ true → has all s ≡ true) × (((k : ℕ) → k < n → in_word words k s ≡ false) → has all s ≡ false)
+
+pub covers_none : (words : List ℕ) → Covers words 0 0
+covers_none words s = (λ k l. absurd (omega arith), λ _. has_zero s)
+
+pub covers_more : (words : List ℕ) (n all : ℕ) → Covers words n all → Covers words (n + 1) (bit_or all (slice_index words n))
+covers_more words n all c s =
+    let e = has_or all (slice_index words n) s in (
+      λ k l h. e ∙ ⊎_elim
+          (λ (q : k ≡ n). or_right (has all s) _ (rw q at h))
+          (λ (d : k ≡ n → ⊥). or_left _ (in_word words n s) ((c s).0 k (omega arith) h)) (cases_eq k n),
+      λ f. e ∙ ap (λ b. b || in_word words n s) ((c s).1 (λ k l. f k (omega arith))) ∙ f n (omega arith),
+    )
 
 has_fold : (ws : List ℕ) (a s : ℕ) → has (fold bit_or a ws) s ≡ (has a s || list_any (λ w. has w s) ws)
 has_fold [] a s = sym (or-false (has a s))

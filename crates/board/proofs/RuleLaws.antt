@@ -7,9 +7,9 @@ use Rattle.board.specs.declared.side.Side.TheVariants.{White, Black}
 use Rattle.board.specs.declared.piece.Kind.TheVariants.{King}
 use Rattle.board.specs.Geometry.{Direction, East, NorthWest, North, NorthEast, West, SouthEast, South, SouthWest, direction, beyond, file, rank, knight_step, king_step}
 use Rattle.board.specs.Piece.{other, code}
-use Rattle.board.specs.Attack.{pawn_attack, slides, attacks, in_check}
+use Rattle.board.specs.Attack.{pawn_attack, slides, attacks_from, attacks, in_check}
 use Rattle.board.specs.Rule.{Line, Mover, Rank, File, Diagonal, On, files, ranks, StrictlyBetween, Reaches, OneAhead, Attacks, pawn, knight, bishop, rook, queen, king, InCheck}
-use Rattle.board.proofs.AttackLaws.{Along, From, decides_attacks, decides_check}
+use Rattle.board.proofs.AttackLaws.{Along, From, decides_from, decides_attacks, decides_check}
 
 -- the line of a direction
 abbrev pub line : Direction → Line
@@ -197,6 +197,9 @@ by_test side codes s t (rook e (inr r)) = inr (inr (inr (moves_along side codes 
 by_test side codes s t (queen e Rank r) = inr (inr (inr (moves_along side codes s t Rank (inl e, r))))
 by_test side codes s t (queen e File r) = inr (inr (inr (moves_along side codes s t File (inl e, r))))
 by_test side codes s t (queen e Diagonal r) = inr (inr (inr (moves_along side codes s t Diagonal (inl e, r))))
+
+pub decides_rule : (side : Side) (codes : List ℕ) (s t : ℕ) → Decides (attacks_from side codes s t) (Attacks side codes s t)
+decides_rule side codes s t = Decides-like _ (by_rule side codes s t) (by_test side codes s t) (decides_from side codes s t)
 
 pub check_rule : (side : Side) (codes : List ℕ) → Decides (in_check side codes) (InCheck side codes)
 check_rule side codes = Decides-like _ there back (decides_check side codes)

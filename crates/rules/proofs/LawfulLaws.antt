@@ -2,7 +2,7 @@
 use Rattle.std.proofs.Common.{◌≡◌, ℕ, zero, suc, ◌+◌, ◌<◌, ◌≤◌, Bool, true, false, cond, eqb, leb, List, [], ◌∷◌, length, get_or, None, refl, ap, ◌∙◌, ⊎_elim, arith}
 use Rattle.std.proofs.lemmas.List.Sums.{sum_by-cons}
 use Rattle.std.proofs.lemmas.List.{get_or_past}
-use Rattle.std.proofs.lemmas.Bool.{and_parts, and_from, cases_lt, eqb-true, eq-eqb, leb-true, le-leb}
+use Rattle.std.proofs.lemmas.Bool.{and_parts, and_from, cases_lt, eqb-true, eq-eqb, leb-true, le-leb, both_ways}
 use Rattle.board.specs.Below.{all_below}
 use Rattle.board.specs.Meaning.{Shown}
 use Rattle.board.proofs.BelowLaws.{all_at, all_from, same_tests}
@@ -62,6 +62,15 @@ all_or_first ((false, b) ∷ ls) e = let z : ◌≡◌ {A = ℕ} 0 1 = cc in abs
 pub lawful_from : (p : Parts) → broken p ≡ None → lawful p ≡ true
 unfolding broken lawful
 lawful_from p e = all_or_first (laws p) e
+
+first_or_all : (ls : List (Bool × Breach)) → all_hold ls ≡ true → first_broken ls ≡ None
+first_or_all [] e = refl
+first_or_all ((true, b) ∷ ls) e = first_or_all ls e
+first_or_all ((false, b) ∷ ls) e = absurd (both_ways false refl e)
+
+pub lawful_unbroken : (p : Parts) → lawful p ≡ true → broken p ≡ None
+unfolding broken lawful
+lawful_unbroken p e = first_or_all (laws p) e
 
 pub lawful_board : (p : Parts) → lawful p ≡ true → is_board p.codes ≡ true
 unfolding lawful
