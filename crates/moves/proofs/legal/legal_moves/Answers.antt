@@ -1,4 +1,6 @@
-use Rattle.std.proofs.Common.{◌≡◌, map, vec_items, sym, ap, ◌∙◌, refl, arith}
+use Rattle.std.proofs.Common.{◌≡◌, ℕ, map, vec_items, sym, ap, ◌∙◌, refl, rules}
+use Rattle.rules.specs.Parts.{Parts}
+use Rattle.rules.specs.Legal.{legal_moves}
 use Rattle.laws.specs.Position.{position_parts}
 use Rattle.moves.specs.Action.{plain}
 use Rattle.moves.proofs.TrialLaws.{none_below, legal_below, turn_found, turn_none}
@@ -24,7 +26,9 @@ loop-number-preserved g c = record {
   ];
 }
 
+-- moves below a bound are all of the legal ones where those below an equal number are
+tried : (p : Parts) (last most : ℕ) → legal_below p most ≡ legal_moves p → last ≡ most → legal_below p last ≡ legal_moves p
+tried p last most all same = ap (legal_below p) same ∙ all
+
 pub returns-clause-answer : goal.returns-clause-answer
-returns-clause-answer g c =
-    let end : c.loop-number.number ≡ c.numbers-number-end.result = omega arith in
-    c.loop-number.invariant.moves ∙ ap (legal_below (position_parts c.args.position.now)) end ∙ c.numbers-number-end.ensures.all
+returns-clause-answer g c = c.loop-number.invariant.moves ∙ search (rules, tried)

@@ -1,5 +1,6 @@
-use Rattle.rays.proofs.SetLaws.{without_all}
+use Rattle.std.proofs.Common.{arith}
+use Rattle.rays.proofs.SetLaws.{has_and, has_or, has_not}
 use Rattle.rays.proofs.bits.without.Goals as goal
 
 pub returns : goal.returns
-returns c = without_all c.args.set c.only.result _ c.only.type_inv c.only.ensures
+returns c s l = grind (arith, has_and, has_or, has_not, c.only.ensures s l)
