@@ -1,6 +1,6 @@
 -- One byte more of a rank.
-use Rattle.std.proofs.Common.{◌≡◌, ℕ, suc, ◌+◌, ◌-◌, ◌*◌, ◌<◌, ◌≤◌, Bool, true, false, ◌&&◌, ◌||◌, ltb, List, [], ◌∷◌, ◌++◌, length, take, drop, replicate, Some, None, sym, refl, ap, ◌∙◌, arith, length-append}
-use Rattle.std.proofs.lemmas.List.{take-replicate, length-take-le, length-replicate, length-drop, drop_at}
+use Rattle.std.proofs.Common.{◌≡◌, ℕ, suc, ◌+◌, ◌-◌, ◌*◌, ◌<◌, ◌≤◌, Bool, true, false, ◌&&◌, ◌||◌, ltb, List, [], ◌∷◌, ◌++◌, length, take, drop, set, replicate, Some, None, sym, refl, ap, ◌∙◌, arith, length-append, take-add}
+use Rattle.std.proofs.lemmas.List.{drop-drop, drop-replicate, take-replicate, take_more_set, drop-set-lt, length-take-le, length-replicate, length-set, length-drop, take_all, drop_at, nil_from_length}
 use Rattle.std.proofs.lemmas.Bool.{or_right, and_right, le-leb, lt-leb, lt-ltb, le-ltb}
 use Rattle.board.specs.Piece.{code_of_letter}
 use borrow.Rule.Slice.PartMut.{put_mid, post_of, Post-is}
@@ -39,34 +39,74 @@ piece_squares b c e f = rw (e, f)
 pub no_squares : (b : ℕ) → is_gap b ≡ false → code_of_letter b ≡ None → squares b ≡ None
 no_squares b e f = rw (e, f)
 
--- one byte of a rank that is not full
-pub rank_cut_short : (digit : Bool) (codes t : List ℕ) → length codes < 8 → length t ≡ 0 → read_rank digit codes t ≡ None
-rank_cut_short digit codes [] h e = rank_short digit codes h
-rank_cut_short digit codes (b ∷ t) h e = absurd (omega arith)
+-- a rank that is filled up to a file, with the other squares empty, and what is left of its text; past the last file it is refused
+pub record Filled (t codes : List ℕ) (file : ℕ) (after : Bool) (rest : List ℕ) : Type 0 where
+  pub size : length codes ≡ 8
+  pub empty : drop file codes ≡ replicate (8 - file) 0
+  pub left : file ≤ 8 → read_rank after (take file codes) rest ≡ read_rank false [] t
+  pub wide : 8 < file → None ≡ read_rank false [] t
 
-pub rank_twice : (codes : List ℕ) (b : ℕ) (t : List ℕ) → length codes < 8 → is_gap b ≡ true → read_rank true codes (b ∷ t) ≡ None
-rank_twice codes b t h g = rank_refused true codes b t _ h (gap_squares b g) (rw g)
+pub filled_none : (t : List ℕ) → Filled t (replicate 8 0) 0 false t
+filled_none t = record { size = refl; empty = refl; left = λ _. refl; wide = λ h. absurd (omega arith) }
 
-pub rank_wide : (digit : Bool) (codes : List ℕ) (b : ℕ) (t : List ℕ) → length codes < 8 → is_gap b ≡ true → 8 < length codes + (b - 48) → read_rank digit codes (b ∷ t) ≡ None
-rank_wide digit codes b t h g w =
-    rank_refused digit codes b t _ h (gap_squares b g)
-    (or_right (digit && is_gap b) _ (lt-ltb 8 (length (codes ++ replicate (b - 48) 0)) (rw (length-append, length-replicate) w)))
+pub filled_all : {t codes : List ℕ} {file : ℕ} {after : Bool} {rest : List ℕ} → Filled t codes file after rest → file ≡ 8 → Some (codes, rest) ≡ read_rank false [] t
+filled_all {t} {codes} {file} {after} {rest} f h =
+    let s = f.size in
+    let e : take file codes ≡ codes = take_all file codes (omega arith) in
+    sym (rank_full after codes rest (omega arith)) ∙ ap (λ x. read_rank after x rest) (sym e) ∙ f.left (omega arith)
 
-pub rank_other : (digit : Bool) (codes : List ℕ) (b : ℕ) (t : List ℕ) → length codes < 8 → is_gap b ≡ false → code_of_letter b ≡ None → read_rank digit codes (b ∷ t) ≡ None
-rank_other digit codes b t h g n = rank_none digit codes b t h (no_squares b g n)
+module _ {t codes : List ℕ} {file : ℕ} {after : Bool} {rest : List ℕ} (f : Filled t codes file after rest) (h : file < 8) where
+  short : length (take file codes) < 8
+  short = let s = f.size in let e = length-take-le file codes (omega arith) in omega arith
 
-pub rank_gap : (codes : List ℕ) (b : ℕ) (t : List ℕ) → length codes < 8 → is_gap b ≡ true → length codes + (b - 48) ≤ 8 →
-    read_rank false codes (b ∷ t) ≡ read_rank true (codes ++ take (b - 48) (replicate 8 0)) t
-rank_gap codes b t h g w =
-    let e : take (b - 48) (replicate 8 0) ≡ replicate (b - 48) 0 = take-replicate (b - 48) 8 0 (omega arith) in
-    rank_more false codes b t (replicate (b - 48) 0) h (gap_squares b g) refl (rw (length-append, length-replicate) w)
-    ∙ ap (λ x. read_rank x (codes ++ replicate (b - 48) 0) t) g ∙ ap (λ x. read_rank true (codes ++ x) t) (sym e)
+  here : (b : ℕ) (behind : List ℕ) → rest ≡ b ∷ behind → read_rank after (take file codes) (b ∷ behind) ≡ read_rank false [] t
+  here b behind e = ap (read_rank after (take file codes)) (sym e) ∙ f.left (omega arith)
 
-pub rank_piece : (digit : Bool) (codes : List ℕ) (b c : ℕ) (t : List ℕ) → length codes < 8 → is_gap b ≡ false → code_of_letter b ≡ Some c →
-    read_rank digit codes (b ∷ t) ≡ read_rank false (codes ++ (c ∷ [])) t
-rank_piece digit codes b c t h g s =
-    rank_more digit codes b t (c ∷ []) h (piece_squares b c g s) (and_right digit (is_gap b) g) (rw length-append (omega arith))
-    ∙ ap (λ x. read_rank x (codes ++ (c ∷ [])) t) g
+  pub filled_end : length rest ≡ 0 → None ≡ read_rank false [] t
+  filled_end e = sym (ap (read_rank after (take file codes)) (nil_from_length rest e) ∙ rank_short after (take file codes) short) ∙ f.left (omega arith)
+
+  module _ (b : ℕ) (behind : List ℕ) (e : rest ≡ b ∷ behind) where
+    pub filled_other : is_gap b ≡ false → code_of_letter b ≡ None → None ≡ read_rank false [] t
+    filled_other g n = sym (rank_none after (take file codes) b behind short (no_squares b g n)) ∙ here b behind e
+
+    pub filled_twice : is_gap b ≡ true → after ≡ true → None ≡ read_rank false [] t
+    filled_twice g a = sym (rank_refused after (take file codes) b behind _ short (gap_squares b g) (rw (a, g))) ∙ here b behind e
+
+    pub filled_gap : is_gap b ≡ true → after ≡ false → Filled t codes (file + (b - 48)) true behind
+    filled_gap g a =
+        let n = b - 48 in
+        let s = f.size in
+        let m = length-take-le file codes (omega arith) in
+        let k : (8 - file) - n ≡ 8 - (file + n) = omega arith in
+        let ga : (after && is_gap b) ≡ false = rw a in
+        record {
+          size = s;
+          empty = sym (drop-drop n file codes) ∙ ap (drop n) f.empty ∙ drop-replicate n (8 - file) 0 ∙ ap (λ x. replicate x 0) k;
+          left = λ l.
+              let sum : take (file + n) codes ≡ take file codes ++ replicate n 0 = take-add file n codes ∙ ap (λ x. take file codes ++ x) (ap (take n) f.empty ∙ take-replicate n (8 - file) 0 (omega arith)) in
+              let few : length (take file codes ++ replicate n 0) ≤ 8 = rw (length-append, length-replicate) (omega arith) in
+              ap (λ x. read_rank true x behind) sum ∙ ap (λ x. read_rank x (take file codes ++ replicate n 0) behind) (sym g)
+              ∙ sym (rank_more after (take file codes) b behind _ short (gap_squares b g) ga few) ∙ here b behind e;
+          wide = λ w.
+              sym (rank_refused after (take file codes) b behind _ short (gap_squares b g)
+              (or_right (after && is_gap b) _ (lt-ltb 8 (length (take file codes ++ replicate n 0)) (rw (length-append, length-replicate) (omega arith))))) ∙ here b behind e;
+        }
+
+    pub filled_piece : (c : ℕ) → is_gap b ≡ false → code_of_letter b ≡ Some c → Filled t (set codes file c) (file + 1) false behind
+    filled_piece c g n =
+        let s = f.size in
+        let m = length-take-le file codes (omega arith) in
+        let sum : take (file + 1) (set codes file c) ≡ take file codes ++ (c ∷ []) = take_more_set codes file c (omega arith) in
+        let few : length (take file codes ++ (c ∷ [])) ≤ 8 = rw length-append (omega arith) in
+        let k : (8 - file) - 1 ≡ 8 - (file + 1) = omega arith in
+        let ga : (after && is_gap b) ≡ false = rw g (and_right after false refl) in
+        record {
+          size = length-set codes file c ∙ s;
+          empty = drop-set-lt (file + 1) codes file c (omega arith) ∙ sym (drop-drop 1 file codes) ∙ ap (drop 1) f.empty ∙ drop-replicate 1 (8 - file) 0 ∙ ap (λ x. replicate x 0) k;
+          left = λ _. ap (λ x. read_rank false x behind) sum ∙ ap (λ x. read_rank x (take file codes ++ (c ∷ [])) behind) (sym g)
+              ∙ sym (rank_more after (take file codes) b behind _ short (piece_squares b c g n) ga few) ∙ here b behind e;
+          wide = λ w. absurd (omega arith);
+        }
 
 -- a board that is filled down to a rank, and what is left of its text
 pub record Ranked (t codes : List ℕ) (row : ℕ) (rest : List ℕ) : Type 0 where

@@ -4,7 +4,6 @@ ghost use Rattle.notation.specs.Reader.{read_as};
 ghost use Rattle.notation.specs.Fields.{is_gap as gap_digit, rank_end as end_of_rank, read_rank, read_ranks};
 
 use crate::fen::fields;
-use arrayvec::ArrayVec;
 use board::piece;
 
 // Whether a byte is a digit for empty squares.
@@ -15,28 +14,30 @@ fn is_gap(byte: u8) -> bool
 }
 
 // The eight codes of a rank, and the rest behind it.
-fn rank(text: &[u8]) -> Option<(ArrayVec<u8, 8>, &[u8])>
-    ensures { read_as (λ codes. codes.items) result ≡ read_rank false [] text.now }
+// An array and a file, where an ArrayVec would call for each gap and each rank what copies so many bytes, and take half as long again.
+fn rank(text: &[u8]) -> Option<([u8; 8], &[u8])>
+    ensures { read_as (λ codes. codes) result ≡ read_rank false [] text.now }
 {
-    let mut codes = ArrayVec::new();
+    let mut codes = [0; 8];
+    let mut file = 0;
     let mut after_gap = false;
     let mut rest = text;
-    while !codes.is_full() {
+    while file < 8 {
         let (byte, behind) = rest.split_first()?;
         let gap = is_gap(*byte);
-        if gap && after_gap {
-            return None;
-        }
         if gap {
-            let empty = usize::from(byte - b'0');
-            codes.try_extend_from_slice(&[0; 8][..empty]).ok()?;
+            if after_gap {
+                return None;
+            }
+            file += usize::from(byte - b'0');
         } else {
-            codes.push(piece::from_letter(*byte)?);
+            codes[file] = piece::from_letter(*byte)?;
+            file += 1;
         }
         after_gap = gap;
         rest = behind;
     }
-    Some((codes, rest))
+    (file == 8).then_some((codes, rest))
 }
 
 /// The byte behind a rank with so many ranks to come.

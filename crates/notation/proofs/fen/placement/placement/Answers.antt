@@ -15,7 +15,6 @@ pub copy_from_slice-requires : goal.copy_from_slice-requires
 copy_from_slice-requires c =
     let eight = (rank_only _ _ _ (sym c.in_ok-squares.ensures)).0 in
     let size = c.loop-row.invariant.size in
-    let same = ap length c.deref.ensures.0 in
     simp (length-take, length-drop) (omega arith)
 
 pub returns-in_err-rest : goal.returns-in_err-rest
@@ -26,7 +25,7 @@ returns-in_err-rest c =
 pub loop-row-preserved : goal.loop-row-preserved
 loop-row-preserved c =
     let eight = (rank_only _ _ _ (sym c.in_ok-squares.ensures)).0 in
-    let same = c.copy_from_slice.ensures.after ∙ c.deref.ensures.0 in
+    let same = c.copy_from_slice.ensures.after in
     ranked_more c.loop-row.invariant (omega arith) c.in_ok-squares.ensures _ _ same (ap length same ∙ eight)
     (c.in_ok-rest.ensures ∙ ap (λ b. past b c.in_ok-squares.behind.now) c.rank_end.ensures)
 

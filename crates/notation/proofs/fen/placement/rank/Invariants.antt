@@ -1,9 +1,9 @@
-use Rattle.std.proofs.Common.{◌≡◌, false, [], length}
-use Rattle.notation.specs.Fields.{read_rank}
+use Rattle.std.proofs.Common.{◌-◌}
+use Rattle.notation.proofs.RankSteps.{Filled}
 use Rattle.notation.proofs.fen.placement.rank.Given as goal
 
-abbrev pub invariant-loop-rest : goal.invariant-loop-rest
-invariant-loop-rest l = read_rank l.after_gap l.codes.items l.rest ≡ read_rank false [] l.text
+abbrev pub invariant-loop-file : goal.invariant-loop-file
+invariant-loop-file l = Filled l.text l.codes l.file l.after_gap l.rest
 
-abbrev pub decreases-loop-rest : goal.decreases-loop-rest
-decreases-loop-rest l = length l.rest
+abbrev pub decreases-loop-file : goal.decreases-loop-file
+decreases-loop-file l = 8 - l.file
