@@ -1,4 +1,4 @@
-//! Writing the fields of FEN, each as a text of its own with room for the longest.
+//! Writing the fields of FEN, each behind what is written of the line.
 ghost use Rattle.std.specs.Prelude.{◌≡◌, ◌+◌, ◌<◌, ◌≤◌, ◌++◌, length};
 ghost use Rattle.std.specs.Option.{option_map};
 ghost use Rattle.arrayvec.specs.ArrayVec.{array_vec_len};
@@ -25,8 +25,8 @@ fn append<const N: usize>(text: &mut ArrayVec<u8, N>, piece: &[u8])
 }
 
 // A digit for so many empty squares in a row, if there are any.
-fn gap(text: &mut ArrayVec<u8, 8>, empty: u8)
-    requires { array_vec_len text.old + empty ≤ 8 }
+fn gap(text: &mut ArrayVec<u8, 124>, empty: u8)
+    requires { array_vec_len text.old + empty ≤ 124 }
     ensures items { text.new.items ≡ text.old.items ++ gap_text empty }
     ensures len { array_vec_len text.new ≤ array_vec_len text.old + empty }
 {
@@ -36,35 +36,35 @@ fn gap(text: &mut ArrayVec<u8, 8>, empty: u8)
 }
 
 // The squares of a rank.
-fn rank(squares: &[u8; 8]) -> ArrayVec<u8, 8>
-    ensures { result.items ≡ rank_text 0 squares.now }
+fn rank(text: &mut ArrayVec<u8, 124>, squares: &[u8; 8])
+    requires { array_vec_len text.old + 8 ≤ 124 }
+    ensures items { text.new.items ≡ text.old.items ++ rank_text 0 squares.now }
+    ensures len { array_vec_len text.new ≤ array_vec_len text.old + 8 }
 {
-    let mut text = ArrayVec::new();
     let mut empty = 0;
     for code in squares {
         if *code == 0 {
             empty += 1;
         } else {
-            gap(&mut text, empty);
+            gap(text, empty);
             text.push(piece::letter(*code));
             empty = 0;
         }
     }
-    gap(&mut text, empty);
-    text
+    gap(text, empty);
 }
 
 // The piece placement and its space.
-fn placement(codes: &[u8; 64]) -> ArrayVec<u8, 72>
-    ensures { result.items ≡ ranks_text 8 codes.now }
+fn placement(text: &mut ArrayVec<u8, 124>, codes: &[u8; 64])
+    requires { array_vec_len text.old + 72 ≤ 124 }
+    ensures items { text.new.items ≡ text.old.items ++ ranks_text 8 codes.now }
+    ensures len { array_vec_len text.new ≤ array_vec_len text.old + 72 }
 {
     let (ranks, _) = codes.as_chunks::<8>();
-    let mut text = ArrayVec::new();
     for (row, squares) in ranks.iter().enumerate().rev() {
-        append(&mut text, &rank(squares));
+        rank(text, squares);
         text.push(rank_end(row));
     }
-    text
 }
 
 // The letter of a side in FEN, which is not how a side is printed elsewhere: so not Display.
@@ -78,8 +78,8 @@ fn side_letter(side: Side) -> u8
 }
 
 // The letter of a right that stands.
-fn right(text: &mut ArrayVec<u8, 4>, letter: u8, stands: bool)
-    requires { array_vec_len text.old < 4 }
+fn right(text: &mut ArrayVec<u8, 124>, letter: u8, stands: bool)
+    requires { array_vec_len text.old < 124 }
     ensures items { text.new.items ≡ text.old.items ++ right_text letter stands }
     ensures len { array_vec_len text.new ≤ array_vec_len text.old + 1 }
 {
@@ -89,25 +89,27 @@ fn right(text: &mut ArrayVec<u8, 4>, letter: u8, stands: bool)
 }
 
 // The castling rights, or the hyphen for none.
-fn rights(rights: Rights) -> ArrayVec<u8, 4>
-    ensures { result.items ≡ rights_text rights }
+fn rights(text: &mut ArrayVec<u8, 124>, rights: Rights)
+    requires { array_vec_len text.old + 4 ≤ 124 }
+    ensures items { text.new.items ≡ text.old.items ++ rights_text rights }
+    ensures len { array_vec_len text.new ≤ array_vec_len text.old + 4 }
 {
-    let mut text = ArrayVec::new();
-    right(&mut text, b'K', rights.white.kingside);
-    right(&mut text, b'Q', rights.white.queenside);
-    right(&mut text, b'k', rights.black.kingside);
-    right(&mut text, b'q', rights.black.queenside);
-    if text.is_empty() {
+    let front = text.len();
+    right(text, b'K', rights.white.kingside);
+    right(text, b'Q', rights.white.queenside);
+    right(text, b'k', rights.black.kingside);
+    right(text, b'q', rights.black.queenside);
+    if text.len() == front {
         text.push(b'-');
     }
-    text
 }
 
 // The name of the en passant square, or the hyphen for none.
-fn en_passant(square: Option<Square>) -> ArrayVec<u8, 2>
-    ensures { result.items ≡ en_passant_text (option_map square_number square) }
+fn en_passant(text: &mut ArrayVec<u8, 124>, square: Option<Square>)
+    requires { array_vec_len text.old + 2 ≤ 124 }
+    ensures items { text.new.items ≡ text.old.items ++ en_passant_text (option_map square_number square) }
+    ensures len { array_vec_len text.new ≤ array_vec_len text.old + 2 }
 {
-    let mut text = ArrayVec::new();
     match square {
         None => text.push(b'-'),
         Some(square) => {
@@ -115,7 +117,6 @@ fn en_passant(square: Option<Square>) -> ArrayVec<u8, 2>
             text.push(b'1' + square.rank());
         }
     }
-    text
 }
 
 /// The FEN of these parts, in a text with room for every FEN.
@@ -123,12 +124,12 @@ pub(crate) fn line(setup: &Setup) -> ArrayVec<u8, 124>
     ensures { result.items ≡ fen_of (parts setup.now) }
 {
     let mut line = ArrayVec::new();
-    append(&mut line, &placement(&setup.codes));
+    placement(&mut line, &setup.codes);
     line.push(side_letter(setup.side));
     line.push(b' ');
-    append(&mut line, &rights(setup.rights));
+    rights(&mut line, setup.rights);
     line.push(b' ');
-    append(&mut line, &en_passant(setup.en_passant));
+    en_passant(&mut line, setup.en_passant);
     line.push(b' ');
     append(&mut line, Digits::of(u64::from(setup.clock)).text());
     line.push(b' ');

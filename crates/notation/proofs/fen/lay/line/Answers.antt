@@ -10,9 +10,9 @@ written x e f = e ∙ ap (λ z. x ++ z) f
 pub returns : goal.returns
 returns c =
     fen_laid (parts c.args.setup.now) _ _ _ _ _ _ _ _ _ _ _ c.new-line.ensures
-    (written _ c.append.ensures.items (c.deref.ensures.0 ∙ c.placement.ensures))
+    c.placement.ensures.items
     (written _ c.push.ensures.items (ap (λ x. x ∷ []) c.side_letter.ensures)) c.push-2.ensures.items
-    (written _ c.append-2.ensures.items (c.deref-2.ensures.0 ∙ c.rights.ensures)) c.push-3.ensures.items
-    (written _ c.append-3.ensures.items (c.deref-3.ensures.0 ∙ c.en_passant.ensures)) c.push-4.ensures.items
-    (written _ c.append-4.ensures.items (c.text.ensures.value ∙ c.of.ensures ∙ ap digits c.from.ensures)) c.push-5.ensures.items
-    (written _ c.append-5.ensures.items (c.text-2.ensures.value ∙ c.of-2.ensures ∙ ap digits c.from-2.ensures))
+    c.rights.ensures.items c.push-3.ensures.items
+    c.en_passant.ensures.items c.push-4.ensures.items
+    (written _ c.append.ensures.items (c.text.ensures.value ∙ c.of.ensures ∙ ap digits c.from.ensures)) c.push-5.ensures.items
+    (written _ c.append-2.ensures.items (c.text-2.ensures.value ∙ c.of-2.ensures ∙ ap digits c.from-2.ensures))

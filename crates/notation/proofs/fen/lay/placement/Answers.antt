@@ -4,7 +4,7 @@ use Rattle.notation.proofs.Laying.{ranks_none, ranks_more, ranks_end}
 use Rattle.notation.proofs.fen.lay.placement.Goals as goal
 
 pub loop-row-init : goal.loop-row-init
-loop-row-init c = record { count = cc; laid = ranks_none c.args.codes.now c.new-text.result.items _ (omega arith) c.new-text.ensures (cc (c.as_chunks.ensures.front)) }
+loop-row-init c = record { count = cc; laid = ranks_none c.args.text.now.items c.args.codes.now _ (omega arith) (cc (c.as_chunks.ensures.front)) }
 
 pub loop-row-preserved : goal.loop-row-preserved
 loop-row-preserved c =
@@ -13,10 +13,13 @@ loop-row-preserved c =
     record {
       count = s.0 ∙ c.loop-row.invariant.count;
       laid = ranks_more c.loop-row.invariant.laid c.push.new.self.items _ c.in-Some.squares.now s.1.0
-          (c.push.ensures.items ∙ ap (λ x. x ++ (c.rank_end.result ∷ [])) (c.append.ensures.items ∙ ap (λ x. c.loop-row.text.items ++ x) (c.deref.ensures.0 ∙ c.rank.ensures))
+          (c.push.ensures.items ∙ ap (λ x. x ++ (c.rank_end.result ∷ [])) c.rank.ensures.items
           ∙ ap (λ x. (c.loop-row.text.items ++ rank_text 0 c.in-Some.squares.now) ++ (x ∷ [])) (c.rank_end.ensures ∙ ap rank_end row))
-          (omega (arith, c.push.ensures.len, c.append.ensures.len, c.deref.ensures.1));
+          (omega (arith, c.push.ensures.len, c.rank.ensures.len));
     }
 
 pub returns : goal.returns
-returns c = ranks_end c.loop-row.invariant.laid c.in-None.ensures.steps.1.0
+returns c =
+    let z = c.in-None.ensures.steps.1.0 in
+    let s = c.loop-row.invariant.laid.size in
+    record { items = ranks_end c.loop-row.invariant.laid z; len = omega arith }

@@ -1,8 +1,11 @@
 use Rattle.std.proofs.Common.{[], ◌∷◌, ◌++◌, ap, ◌∙◌, arith}
 use Rattle.notation.specs.Fields.{gap_text}
-use Rattle.notation.proofs.Laying.{laid_empty, laid_piece, laid_end}
+use Rattle.notation.proofs.Laying.{laid_none, laid_empty, laid_piece, laid_end}
 use Rattle.notation.proofs.fen.lay.rank.Goals as goal
 use Rattle.notation.proofs.fen.lay.rank.Goals.{then-code-eq0, else-code-eq0}
+
+pub loop-code-init : goal.loop-code-init
+loop-code-init c = laid_none c.args.text.now.items c.args.squares.now
 
 pub loop-code-preserved : goal.loop-code-preserved
 loop-code-preserved c =
@@ -16,4 +19,6 @@ loop-code-preserved c =
     ]
 
 pub returns : goal.returns
-returns c = c.gap-2.ensures.items ∙ laid_end c.loop-code.invariant (omega (arith, c.loop-code-test.false))
+returns c =
+    let s = c.loop-code.invariant.size in
+    record { items = c.gap-2.ensures.items ∙ laid_end c.loop-code.invariant (omega (arith, c.loop-code-test.false)); len = omega (arith, c.gap-2.ensures.len) }
