@@ -40,10 +40,13 @@ impl Setup {
     }
 
     // How many squares hold a code.
-    fn count(&self, wanted: u8) -> usize
+    fn count(&self, wanted: u8) -> u8
         ensures { result ≡ counted wanted self.now.codes }
     {
-        self.codes.iter().filter(|&&code| code == wanted).count()
+        // Not filter and count, which take the codes one by one: a sum of bytes takes many at once, and 64 fit in a byte.
+        self.codes.iter().fold(0u8, |found, &code| {
+            found.wrapping_add(u8::from(code == wanted))
+        })
     }
 
     // Whether each side has one king.
