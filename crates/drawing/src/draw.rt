@@ -1,6 +1,7 @@
 //! The parts of a drawing, each written behind what the buffer has. A struct around the one `Vec` would only forward to it.
 ghost use Rattle.std.specs.Prelude.{◌≡◌, ◌+◌, ◌-◌, ◌<◌, ◌++◌, OnOk};
 ghost use Rattle.laws.specs.Position.{position_parts};
+ghost use Rattle.notation.specs.Decimal.{digits};
 ghost use Rattle.notation.specs.Fen.{fen as fen_text};
 ghost use Rattle.drawing.specs.Drawing.{rank_drawn, ranks_drawn, turn_drawn, place_drawn, position_drawn, fault_drawn};
 
@@ -10,6 +11,7 @@ use board::side::Side;
 use board::{Board, piece};
 use faults::SheetFault;
 use laws::position::Position;
+use notation::decimal::Digits;
 use notation::fen;
 use std::alloc::AllocError;
 
@@ -84,8 +86,17 @@ pub(crate) fn position<B: Board>(
     out.extend_from_slice(b"\n\n")
 }
 
+// A word, and behind it a number in decimal digits.
+#[inline]
+fn counted(out: &mut Vec<u8>, word: &[u8], number: u64) -> Result<(), AllocError>
+    ensures { OnOk result (out.new.items ≡ out.old.items ++ (word.now ++ digits number)) }
+{
+    out.extend_from_slice(word)?;
+    out.extend_from_slice(Digits::of(number).text())
+}
+
 /// A fault of a line that starts at a byte of the input and has a number.
-#[tactic(auto, using(notation::proofs::DecimalLaws::digits_decimal), unfolding(crate::specs::Drawing::fault_drawn))]
+#[tactic(auto, using(std::proofs::Common::append_assoc), unfolding(crate::specs::Drawing::fault_drawn))]
 pub(crate) fn fault(
     out: &mut Vec<u8>,
     fault: SheetFault,
@@ -94,10 +105,9 @@ pub(crate) fn fault(
 ) -> Result<(), AllocError>
     ensures { OnOk result (out.new.items ≡ out.old.items ++ fault_drawn fault byte line) }
 {
-    let number = fault.number();
-    let layer = fault.layer();
-    let text = format!(in *out.allocator();
-        "% fault {number} layer {layer} byte {byte} line {line}\n\n"
-    )?;
-    out.extend_from_slice(text.as_bytes())
+    counted(out, b"% fault ", u64::from(fault.number()))?;
+    counted(out, b" layer ", u64::from(fault.layer()))?;
+    counted(out, b" byte ", byte as u64)?;
+    counted(out, b" line ", line as u64)?;
+    out.extend_from_slice(b"\n\n")
 }
